@@ -12,3 +12,5 @@ mod Reporting
 mod Steady
 mod Kept
 mod Obeying
+pub mod FollowTaken
+pub mod Followed

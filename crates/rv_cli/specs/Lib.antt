@@ -5,6 +5,7 @@ pub mod LineTaking
 pub mod LineRunLaws
 pub mod Headline
 pub mod Feeding
+pub mod Following
 pub mod RunLaws
 pub mod TroubleLaws
 pub mod Storing
@@ -25,4 +26,6 @@ pub mod ImportPromise
 pub mod ImportLaws
 pub mod ServePromise
 pub mod MakePromise
+pub mod FollowPromise
+pub mod FollowRun
 pub mod Promises

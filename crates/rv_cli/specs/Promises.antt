@@ -2,7 +2,7 @@
 use Rattle.std.specs.Prelude.{◌≡◌, ◌⊎◌, ℕ, List, Option, Some, None, String}
 use Rattle.std.specs.Global.{Global}
 use Rattle.rv_words.specs.declared.command.Command.{Command}
-use Rattle.rv_words.specs.declared.command.Command.TheVariants.{Feed, Retire, Lists, Activity, Check, CloseBook, Make, Serve, Ship, Export, Import}
+use Rattle.rv_words.specs.declared.command.Command.TheVariants.{Feed, Retire, Lists, Activity, Check, CloseBook, Follow, Make, Serve, Ship, Export, Import}
 use Rattle.rv_cli.specs.declared.ending.Ending.TheVariants.{Memory}
 use Rattle.rv_cli.specs.Commands.{asked_by}
 use Rattle.rv_cli.specs.Headline.{ReportsActivity, ReportsLists, ReportsSound, ReportsView, WritesLines, WritesOnly, WritesWhole}
@@ -13,6 +13,7 @@ use Rattle.rv_cli.specs.ReportPromise.{KeepsReport}
 use Rattle.rv_cli.specs.ImportPromise.{KeepsImport}
 use Rattle.rv_cli.specs.ServePromise.{KeepsServe}
 use Rattle.rv_cli.specs.MakePromise.{KeepsMake}
+use Rattle.rv_cli.specs.FollowPromise.{KeepsFollow}
 use Rattle.rv_cli.specs.Texts.{status_text, usage_text}
 
 module _ (o : Outside) where
@@ -38,6 +39,7 @@ module _ (o : Outside) where
   Promises (Some (Ship store)) r = KeepsReport o store WritesLines r
   Promises (Some (Import store user name)) r = KeepsImport o store user name r
   Promises (Some (Make seed requests)) r = KeepsMake o seed requests r
+  Promises (Some (Follow port)) r = KeepsFollow o port r
 
   -- That is promised of what the words ask for; or memory was refused in reading them, and status 8 tells it.
   abbrev pub Obeys : List (String Global) → Run o → Type 0

@@ -1,7 +1,7 @@
 -- What `run` promises of `serve`. The accounts file is read, then the store is opened, then the net is listened to; the listeners are
 -- served side by side, those of connections each by the turns of a seat, and those of links by the looks of one; and at the end the length
 -- of the book is written.
-use Rattle.std.specs.Prelude.{ℕ, ◌≡◌, ◌-◌, ◌^◌, ◌<◌, ◌⊎◌, List, ◌∷◌, ◌++◌, [], length, Option, Some, Result, Ok, Err, codes, decimal}
+use Rattle.std.specs.Prelude.{ℕ, ◌≡◌, ◌-◌, ◌^◌, ◌<◌, ◌⊎◌, List, ◌∷◌, ◌++◌, [], length, Some, Result, Ok, Err, codes, decimal}
 use Rattle.std.specs.List.{flat_map, AllByRecursion}
 use Rattle.std.specs.Io.KnownBytes.{Appends}
 use Rattle.rv_base.specs.Causes.{Rose}

@@ -104,4 +104,4 @@ import_ending_text imports.Memory = codes "memory\n"
 import_ending_text imports.Write = []
 
 abbrev pub usage_text : List ℕ
-usage_text = codes "usage: rv feed|serve|retire|lists|activity|check|make|close-book|ship|import|export\n"
+usage_text = codes "usage: rv feed|serve|retire|lists|activity|check|make|close-book|ship|follow|import|export\n"

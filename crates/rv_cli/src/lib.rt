@@ -5,12 +5,15 @@
 //! (`specs/Headline.antt`; what is said of runs over lines, whoever takes them, stands in `specs/LineRuns.antt`). `retire STORE GROUP`
 //! and `close-book STORE` are one answer so, and `lists`, `activity`, `check` and `export STORE USER` are reports of that book.
 //! `import STORE USER NAME` reads CSV, whose records are turns at that book (`specs/Importing.antt`). `serve STORE` answers HTTP from
-//! it by several workers, and pokes whom an act concerns (`specs/Serving.antt`). `make SEED N` is the summary of a run over a fresh
+//! it by several workers, and pokes whom an act concerns (`specs/Serving.antt`). `follow --port PORT` takes the lines of a book from one
+//! connection and answers its pulls (`specs/FollowPromise.antt`). `make SEED N` is the summary of a run over a fresh
 //! store in memory.
 #![tactic(auto)]
 
 mod ending;
 mod feed;
+mod follow;
+mod following;
 mod import;
 mod import_ending;
 mod input;
@@ -27,10 +30,11 @@ mod store;
 mod texts;
 
 pub use ending::Ending;
+pub use follow::run_follow;
 pub use import::run_import;
 pub use import_ending::ImportEnding;
 pub use make::run_make;
 pub use program::{run, run_feed, run_retire};
-pub use reports::{run_activity, run_check, run_export, run_lists};
+pub use reports::{run_activity, run_check, run_export, run_lists, run_ship};
 pub use serve::run_serve;
 pub use serve_ending::ServeEnding;

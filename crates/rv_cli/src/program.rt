@@ -1,11 +1,11 @@
 // The program.
-ghost use Rattle.std.specs.Prelude.{◌≡◌, ◌≢◌, ◌⊎◌, None, Ok};
+ghost use Rattle.std.specs.Prelude.{◌≡◌, ◌≢◌, ◌⊎◌, None, Ok, false};
 ghost use Rattle.rv_base.specs.Causes.{Rose};
 ghost use Rattle.rv_answering.specs.declared.line.Line.TheVariants.{Asks};
 ghost use Rattle.rv_answering.specs.declared.request.Request.TheVariants.{Close, Retire};
 ghost use Rattle.rv_cli.specs.Texts.{usage_text, status_text};
 ghost use Rattle.rv_cli.specs.Headline.{AllAsk, WritesOnly};
-ghost use Rattle.rv_cli.specs.Commands.{asked_by};
+ghost use Rattle.rv_cli.specs.Commands.{asked_by, asks_to_follow};
 ghost use Rattle.rv_cli.specs.FeedPromise.{WasFed, feed_statuses};
 ghost use Rattle.rv_cli.specs.ReplyPromises.{WasAnswered, reply_statuses};
 ghost use Rattle.rv_cli.specs.StorePromise.{CountStays, KeepsStore};
@@ -17,6 +17,7 @@ ghost use Rattle.rv_cli.specs.declared.ending.Ending.TheVariants as endings;
 
 use crate::ending::Ending;
 use crate::feed::feed;
+use crate::follow::run_follow;
 use crate::import::run_import;
 use crate::make::run_make;
 use crate::reports::{run_activity, run_check, run_export, run_lists, run_ship};
@@ -166,14 +167,16 @@ fn give_up<O: Sink>(out: &mut O) -> u8
 /// book that the store keeps; `serve STORE` answers the requests of connections so, which workers serve side by side, and pokes clients;
 /// `retire STORE GROUP` retires a client group there, and `close-book STORE` closes the book; `lists STORE`, `activity STORE` and `check STORE` are reports of the store,
 /// which stays as it is, and so is `export STORE USER`, the rows that the user sees as CSV; `make SEED N` tells what comes of N
-/// requests that a seed makes over a fresh store in memory, and touches no other. `import STORE USER NAME` reads the input whole, which
+/// requests that a seed makes over a fresh store in memory, and touches no other. `ship STORE` writes the book as lines, and `follow --port PORT` takes such lines from one
+/// connection and answers pulls on it. `import STORE USER NAME` reads the input whole, which
 /// is CSV, and enters a todo of the user for each of its records. STORE is `memory`, which begins empty, or the name of a store of the
 /// place.
 ///
 /// Status 0: the input was read to its end, and all that was asked is answered. 2: the words are no line of the command set. 3: the
 /// accounts file is not of the form. 4: the place or the keeper failed in opening, the accounts file could not be read, or a report
 /// is asked of a store that isn't there. 5: the store is damaged, first at this shelf and key. 6: a read failed. 7: a write failed.
-/// 8: memory was refused outside a request. 9: the net failed. 10: the line that is named is not of the form. 11: the CSV has more than
+/// 8: memory was refused outside a request. 9: the net failed. 10: the line that is named is not of the form, or of `follow` may not
+/// come next. 11: the CSV has more than
 /// 16,777,216 bytes, or the record that is named is not of the form. 12: a record was refused as the line says. Each but 0 and 7 has a
 /// text of its own, which is written last.
 pub fn run<R: Wait + Sync, P: Place, S: Source, O: Sink, N: Net, C: Crew>(
@@ -195,17 +198,18 @@ where
         words.now (ran place.old place.new input.old input.new out.old out.new net.old net.new result) }
     ensures usage { result ≡ 2 → asked_by words.now ≡ None }
 
-    // A fault is told exactly where one rose, but for a write of a status's own text that failed.
+    // A fault is told exactly where one rose, but for a write of a status's own text that failed. Reads and writes of `follow` are those
+    // of its connection, of which its own promise tells.
     ensures keeper { result ≡ 4 → Rose (P.faults place.old) (P.faults place.new) }
     ensures net { result ≡ 9 → Rose (N.faults net.old) (N.faults net.new) }
-    ensures read { result ≡ 6 → Rose (S.state input.old).faults (S.state input.new).faults }
+    ensures read { asks_to_follow words.now ≡ false → result ≡ 6 → Rose (S.state input.old).faults (S.state input.new).faults }
     ensures read_told { result ≡ 6 ⊎ (S.state input.new).faults ≡ (S.state input.old).faults }
-    ensures write { result ≡ 7 → Rose (O.state out.old).faults (O.state out.new).faults }
+    ensures write { asks_to_follow words.now ≡ false → result ≡ 7 → Rose (O.state out.old).faults (O.state out.new).faults }
     ensures write_told { result ≡ 7 ⊎ (O.state out.new).faults ≡ (O.state out.old).faults ⊎ ((result ≢ 0) × Rose (O.state out.old).faults (O.state out.new).faults) }
 
     // Over an input and an output that fail no more it is none of the faults, but for want of memory in the output.
-    ensures steady_input { S.fails_no_more input.old → S.fails_no_more input.new × (result ≢ 6) }
-    ensures steady_output { O.fails_no_more out.old → O.fails_no_more out.new × (Rose (O.state out.old).refusals (O.state out.new).refusals ⊎ (result ≢ 7)) }
+    ensures steady_input { S.fails_no_more input.old → S.fails_no_more input.new × (asks_to_follow words.now ≡ false → result ≢ 6) }
+    ensures steady_output { O.fails_no_more out.old → O.fails_no_more out.new × (asks_to_follow words.now ≡ false → Rose (O.state out.old).refusals (O.state out.new).refusals ⊎ (result ≢ 7)) }
 {
     match command_of(alloc, words) {
         Ok(Some(Command::Feed { store })) => run_feed(alloc, place, store.as_str(), input, out),
@@ -248,6 +252,7 @@ where
             out,
             net,
         ),
+        Ok(Some(Command::Follow { port })) => run_follow(alloc, port, out, net),
         Ok(None) => refuse_words(out),
         Err(Memory) => give_up(out),
     }

@@ -201,7 +201,7 @@ fn write_entries<O: Sink>(out: &mut O, entries: u32) -> ServeEnding
 }
 
 // Writes the text of an ending.
-fn tell<O: Sink>(out: &mut O, ending: ServeEnding) -> ServeEnding
+pub(crate) fn tell<O: Sink>(out: &mut O, ending: ServeEnding) -> ServeEnding
     ensures ending { result ≡ ending }
     ensures text { WritesOnly (O.state out.old) (O.state out.new) (serve_text ending) }
     ensures steady { O.fails_no_more out.old → O.fails_no_more out.new }

@@ -218,6 +218,6 @@ pub(crate) fn write_usage<O: Sink>(out: &mut O) -> Result<(), Failed>
 {
     write_all(
         out,
-        b"usage: rv feed|serve|retire|lists|activity|check|make|close-book|ship|import|export\n",
+        b"usage: rv feed|serve|retire|lists|activity|check|make|close-book|ship|follow|import|export\n",
     )
 }

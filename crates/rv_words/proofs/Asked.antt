@@ -21,19 +21,19 @@ pub one_value : (word : List ℕ) → begins_with_hyphen word ≡ false → valu
 one_value word plain = is_value word [] plain
 
 -- a line of one value asks for what the value does
-line_of_one : (name verb store : List ℕ) → bytes_eq verb (codes "serve") ≡ false → begins_with_hyphen store ≡ false
+line_of_one : (name verb store : List ℕ) → bytes_eq verb (codes "serve") ≡ false → bytes_eq verb (codes "follow") ≡ false → begins_with_hyphen store ≡ false
     → command_in (name ∷ verb ∷ store ∷ []) ≡ asked_with verb (store ∷ [])
-line_of_one name verb store other plain =
-    line_is_plain (name ∷ verb ∷ store ∷ []) ∙ rw other (ap (λ values. option_and_then (asked_with verb) values) (one_value store plain))
+line_of_one name verb store other no_port plain =
+    line_is_plain (name ∷ verb ∷ store ∷ []) ∙ rw (other, no_port) (ap (λ values. option_and_then (asked_with verb) values) (one_value store plain))
 
 pub stores_asked : StoresAreAsked
 stores_asked = record {
-  feed = λ name store. line_of_one name (codes "feed") store refl;
-  lists = λ name store. line_of_one name (codes "lists") store refl;
-  activity = λ name store. line_of_one name (codes "activity") store refl;
-  check = λ name store. line_of_one name (codes "check") store refl;
-  close_book = λ name store. line_of_one name (codes "close-book") store refl;
-  ship = λ name store. line_of_one name (codes "ship") store refl;
+  feed = λ name store. line_of_one name (codes "feed") store refl refl;
+  lists = λ name store. line_of_one name (codes "lists") store refl refl;
+  activity = λ name store. line_of_one name (codes "activity") store refl refl;
+  check = λ name store. line_of_one name (codes "check") store refl refl;
+  close_book = λ name store. line_of_one name (codes "close-book") store refl refl;
+  ship = λ name store. line_of_one name (codes "ship") store refl refl;
 }
 
 -- a group that is an `Id` is retired
@@ -79,6 +79,7 @@ short_lines = record {
   serve_alone = λ name. line_is_plain (name ∷ codes "serve" ∷ []);
   close_book_alone = λ name. line_is_plain (name ∷ codes "close-book" ∷ []);
   ship_alone = λ name. line_is_plain (name ∷ codes "ship" ∷ []);
+  follow_alone = λ name. line_is_plain (name ∷ codes "follow" ∷ []);
   no_requests = λ name seed. line_is_plain (name ∷ codes "make" ∷ seed ∷ []) ∙ alone make_with refl (λ value. refl) seed;
   no_group = λ name store. line_is_plain (name ∷ codes "retire" ∷ store ∷ []) ∙ alone retire_with refl (λ value. refl) store;
   no_user = λ name store. line_is_plain (name ∷ codes "import" ∷ store ∷ []) ∙ alone import_with refl (λ value. refl) store;
@@ -122,7 +123,7 @@ differs verb known other = go (bytes_eq verb known) refl
     go false is = refl
 
 pub others : OthersAskForNothing
-others name verb words feed retire lists activity check make import export serve close_book ship = other_line name verb words (record {
+others name verb words feed retire lists activity check make import export serve close_book ship follow = other_line name verb words (record {
   feed = differs verb (codes "feed") feed;
   retire = differs verb (codes "retire") retire;
   lists = differs verb (codes "lists") lists;
@@ -134,4 +135,5 @@ others name verb words feed retire lists activity check make import export serve
   serve = differs verb (codes "serve") serve;
   close_book = differs verb (codes "close-book") close_book;
   ship = differs verb (codes "ship") ship;
+  follow = differs verb (codes "follow") follow;
 })

@@ -7,19 +7,20 @@ use Rattle.std.specs.Str.{bytes_eq}
 use Rattle.std.specs.Str.Parse.{digits_value}
 use Rattle.std.proofs.lemmas.Bool.Decides.{nat_tests}
 use Rattle.rv_words.specs.Numbers.{number_in}
-use Rattle.rv_words.specs.Words.{as_import_name, as_user, command_in, export_of, import_of, is_id, make_of, options_with, retire_group_in}
-use Rattle.rv_words.specs.Plain.{Part, asked_with, export_with, import_with, make_with, on_store_with, parts_from, plainly_in, retire_with, serve_with, the_value, values_in}
+use Rattle.rv_words.specs.Words.{as_import_name, as_user, command_in, export_of, follow_of, import_of, is_id, make_of, options_with, retire_group_in}
+use Rattle.rv_words.specs.Plain.{Part, asked_with, export_with, follow_with, import_with, make_with, on_store_with, parts_from, plainly_in, retire_with, serve_with, the_value, values_in}
 use Rattle.rv_words.specs.Laws.{GroupsAreIds, IsUser, NamesImport, SeedsAreInBounds, UsersAreUsers}
+use Rattle.rv_words.specs.FollowLaws.{PortsAreInBounds}
 use Rattle.rv_words.specs.declared.command.Command.{Command}
-use Rattle.rv_words.specs.declared.command.Command.TheVariants.{Activity, Check, CloseBook, Export, Feed, Import, Lists, Make, Retire, Serve, Ship}
+use Rattle.rv_words.specs.declared.command.Command.TheVariants.{Activity, Check, CloseBook, Export, Feed, Follow, Import, Lists, Make, Retire, Serve, Ship}
 use Rattle.rv_words.specs.declared.serve_options.ServeOptions.{ServeOptions}
 use Rattle.rv_words.proofs.Lines.{line_is_plain}
 
 abbrev AreBounded : ℕ → ℕ → Type 0
 AreBounded seed requests = IsInRange 0 2147483647 seed × IsInRange 0 1000000 requests
 
--- it holds of the commands of stores alone and of `serve`, of `retire` with an `Id`, of `make` with numbers in bounds, and of
--- `import` and `export` with a user and a name
+-- it holds of the commands of stores alone and of `serve`, of `retire` with an `Id`, of `make` with numbers in bounds, of
+-- `import` and `export` with a user and a name, and of `follow` with a port
 record HoldsOf (P : Command → Type 0) : Type 0 where
   pub feed : (store : List ℕ) → P (Feed store)
   pub lists : (store : List ℕ) → P (Lists store)
@@ -32,6 +33,7 @@ record HoldsOf (P : Command → Type 0) : Type 0 where
   pub serve : (store : List ℕ) (options : ServeOptions) → P (Serve store options)
   pub close_book : (store : List ℕ) → P (CloseBook store)
   pub ship : (store : List ℕ) → P (Ship store)
+  pub follow : (port : ℕ) → IsInRange 1 65535 port → P (Follow port)
 
 both_true : (a b c : Bool) → (a && b && c) ≡ true → (b ≡ true) × (c ≡ true)
 both_true true true true is = (refl, refl)
@@ -46,15 +48,16 @@ within least most number low high =
     (above, below)
 
 -- a number that is read is in bounds
-read_within : (most number : ℕ) (text : List ℕ) → number_in 0 most text ≡ Some number → IsInRange 0 most number
-read_within most number text is = go (bytes_eq (decimal (digits_value 10 text)) text && nat_le 0 (digits_value 10 text) && nat_le (digits_value 10 text) most) refl is
+read_within : (least most number : ℕ) (text : List ℕ) → number_in least most text ≡ Some number → IsInRange least most number
+read_within least most number text is =
+    go (bytes_eq (decimal (digits_value 10 text)) text && nat_le least (digits_value 10 text) && nat_le (digits_value 10 text) most) refl is
   where
-    go : (b : Bool) → (bytes_eq (decimal (digits_value 10 text)) text && nat_le 0 (digits_value 10 text) && nat_le (digits_value 10 text) most) ≡ b
-        → cond b (Some (digits_value 10 text)) None ≡ Some number → IsInRange 0 most number
+    go : (b : Bool) → (bytes_eq (decimal (digits_value 10 text)) text && nat_le least (digits_value 10 text) && nat_le (digits_value 10 text) most) ≡ b
+        → cond b (Some (digits_value 10 text)) None ≡ Some number → IsInRange least most number
     go true tests is =
         let both = both_true _ _ _ tests in
         let same : digits_value 10 text ≡ number = cc in
-        subst (λ (n : ℕ). IsInRange 0 most n) same (within 0 most (digits_value 10 text) both.0 both.1)
+        subst (λ (n : ℕ). IsInRange least most n) same (within least most (digits_value 10 text) both.0 both.1)
     go false tests is = absurd (cc)
 
 two_true : (a b : Bool) → (a && b) ≡ true → (a ≡ true) × (b ≡ true)
@@ -136,7 +139,7 @@ module _ (P : Command → Type 0) (holds : HoldsOf P) where
       go None n read counted command is = absurd (cc)
       go (Some x) None read counted command is = absurd (cc)
       go (Some x) (Some y) read counted command is =
-          this_holds _ command (holds.make x y (read_within 2147483647 x seed read, read_within 1000000 y requests counted)) is
+          this_holds _ command (holds.make x y (read_within 0 2147483647 x seed read, read_within 0 1000000 y requests counted)) is
 
   by_makes : (values : List (List ℕ)) → AllHold (make_with values)
   by_makes [] command is = absurd (cc)
@@ -186,20 +189,38 @@ module _ (P : Command → Type 0) (holds : HoldsOf P) where
   by_serve (Some s) None command is = absurd (cc)
   by_serve (Some s) (Some o) command is = this_holds _ command (holds.serve s o) is
 
+  by_port : (text : List ℕ) → AllHold (follow_of text)
+  by_port text = go (number_in 1 65535 text) refl
+    where
+      go : (n : Option ℕ) → number_in 1 65535 text ≡ n → AllHold (option_map (λ port. Follow port) n)
+      go None read command is = absurd (cc)
+      go (Some port) read command is = this_holds _ command (holds.follow port (read_within 1 65535 port text read)) is
+
+  by_one_part : (part : Part) (named : Bool) → AllHold (cond named (follow_of part.1) None)
+  by_one_part part true command is = by_port part.1 command is
+  by_one_part part false command is = absurd (cc)
+
+  by_follow : (parts : Option (List Part)) → AllHold (option_and_then follow_with parts)
+  by_follow None command is = absurd (cc)
+  by_follow (Some []) command is = absurd (cc)
+  by_follow (Some (part ∷ [])) command is = by_one_part part (bytes_eq part.0 (codes "port")) command is
+  by_follow (Some (part ∷ more ∷ parts)) command is = absurd (cc)
+
   by_parts : (parts : Option (List Part)) → AllHold (option_and_then serve_with parts)
   by_parts None command is = absurd (cc)
   by_parts (Some ps) command is = by_serve (the_value ps (codes "STORE")) (option_and_then (options_with (the_value ps)) (the_value ps (codes "accounts"))) command is
 
-  by_verb : (verb : List ℕ) (words : List (List ℕ)) (serve : Bool)
-      → AllHold (cond serve (option_and_then serve_with (parts_from None words)) (option_and_then (asked_with verb) (values_in words)))
-  by_verb verb words true command is = by_parts (parts_from None words) command is
-  by_verb verb words false command is = by_values verb (bytes_eq verb (codes "retire")) (bytes_eq verb (codes "make"))
+  by_verb : (verb : List ℕ) (words : List (List ℕ)) (serve follow : Bool) → AllHold (cond serve (option_and_then serve_with (parts_from None words))
+      (cond follow (option_and_then follow_with (parts_from None words)) (option_and_then (asked_with verb) (values_in words))))
+  by_verb verb words true follow command is = by_parts (parts_from None words) command is
+  by_verb verb words false true command is = by_follow (parts_from None words) command is
+  by_verb verb words false false command is = by_values verb (bytes_eq verb (codes "retire")) (bytes_eq verb (codes "make"))
       (bytes_eq verb (codes "import")) (bytes_eq verb (codes "export")) (values_in words) command is
 
   by_line : (words : List (List ℕ)) → AllHold (plainly_in words)
   by_line [] command is = absurd (cc)
   by_line (name ∷ []) command is = absurd (cc)
-  by_line (name ∷ verb ∷ words) command is = by_verb verb words (bytes_eq verb (codes "serve")) command is
+  by_line (name ∷ verb ∷ words) command is = by_verb verb words (bytes_eq verb (codes "serve")) (bytes_eq verb (codes "follow")) command is
 
   -- it holds of whatever words ask for
   all_hold : (words : List (List ℕ)) → AllHold (command_in words)
@@ -219,10 +240,11 @@ HasId (Export store user) = Unit {0}
 HasId (Serve store options) = Unit {0}
 HasId (CloseBook store) = Unit {0}
 HasId (Ship store) = Unit {0}
+HasId (Follow port) = Unit {0}
 
 pub group_is_id : GroupsAreIds
 group_is_id words store group is = all_hold HasId
-    (record { feed = λ s. tt; lists = λ s. tt; activity = λ s. tt; check = λ s. tt; retire = λ s g id. id; make = λ s n bounded. tt; import = λ s u n is named. tt; export = λ s u is. tt; serve = λ s o. tt; close_book = λ s. tt; ship = λ s. tt })
+    (record { feed = λ s. tt; lists = λ s. tt; activity = λ s. tt; check = λ s. tt; retire = λ s g id. id; make = λ s n bounded. tt; import = λ s u n is named. tt; export = λ s u is. tt; serve = λ s o. tt; close_book = λ s. tt; ship = λ s. tt; follow = λ p is. tt })
     words (Retire store group) is
 
 abbrev HasBounds : Command → Type 0
@@ -237,11 +259,17 @@ HasBounds (Export store user) = Unit {0}
 HasBounds (Serve store options) = Unit {0}
 HasBounds (CloseBook store) = Unit {0}
 HasBounds (Ship store) = Unit {0}
+HasBounds (Follow port) = IsInRange 1 65535 port
+
+all_have_bounds : (words : List (List ℕ)) (command : Command) → command_in words ≡ Some command → HasBounds command
+all_have_bounds = all_hold HasBounds
+    (record { feed = λ s. tt; lists = λ s. tt; activity = λ s. tt; check = λ s. tt; retire = λ s g id. tt; make = λ s n bounded. bounded; import = λ s u n is named. tt; export = λ s u is. tt; serve = λ s o. tt; close_book = λ s. tt; ship = λ s. tt; follow = λ p is. is })
 
 pub seeds_in_bounds : SeedsAreInBounds
-seeds_in_bounds words seed requests is = all_hold HasBounds
-    (record { feed = λ s. tt; lists = λ s. tt; activity = λ s. tt; check = λ s. tt; retire = λ s g id. tt; make = λ s n bounded. bounded; import = λ s u n is named. tt; export = λ s u is. tt; serve = λ s o. tt; close_book = λ s. tt; ship = λ s. tt })
-    words (Make seed requests) is
+seeds_in_bounds words seed requests = all_have_bounds words (Make seed requests)
+
+pub ports_in_bounds : PortsAreInBounds
+ports_in_bounds words port = all_have_bounds words (Follow port)
 
 abbrev HasUser : Command → Type 0
 HasUser (Feed store) = Unit {0}
@@ -255,10 +283,11 @@ HasUser (Export store user) = IsUser user
 HasUser (Serve store options) = Unit {0}
 HasUser (CloseBook store) = Unit {0}
 HasUser (Ship store) = Unit {0}
+HasUser (Follow port) = Unit {0}
 
 all_have_users : (words : List (List ℕ)) (command : Command) → command_in words ≡ Some command → HasUser command
 all_have_users = all_hold HasUser
-    (record { feed = λ s. tt; lists = λ s. tt; activity = λ s. tt; check = λ s. tt; retire = λ s g id. tt; make = λ s n bounded. tt; import = λ s u n is named. (is, named); export = λ s u is. is; serve = λ s o. tt; close_book = λ s. tt; ship = λ s. tt })
+    (record { feed = λ s. tt; lists = λ s. tt; activity = λ s. tt; check = λ s. tt; retire = λ s g id. tt; make = λ s n bounded. tt; import = λ s u n is named. (is, named); export = λ s u is. is; serve = λ s o. tt; close_book = λ s. tt; ship = λ s. tt; follow = λ p is. tt })
 
 pub users_are : UsersAreUsers
 users_are = record {

@@ -30,16 +30,16 @@ values_apart (word ∷ words) after none =
     let each = neither (begins_with_hyphen word) (list_any begins_with_hyphen words) none in
     is_value word (words ++ codes "--" ∷ after) each.0 ∙ ap (λ values. option_map (λ vs. word ∷ vs) values) (values_apart words after each.1)
 
-asked_plainly : (verb : List ℕ) (values : List (List ℕ)) (command : Command) → bytes_eq verb (codes "serve") ≡ false → asked_with verb values ≡ Some command
+asked_plainly : (verb : List ℕ) (values : List (List ℕ)) (command : Command) → bytes_eq verb (codes "serve") ≡ false → bytes_eq verb (codes "follow") ≡ false → asked_with verb values ≡ Some command
     → IsAskedWith verb values command
-asked_plainly verb values command other asks = record {
+asked_plainly verb values command other no_port asks = record {
   plain = λ name none. line name values (all_values values none);
   after_hyphens = λ name before after are none. line name (before ++ codes "--" ∷ after) (values_apart before after none ∙ ap (λ vs. Some vs) are);
 }
   where
     line : (name : List ℕ) (words : List (List ℕ)) → values_in words ≡ Some values → command_in (name ∷ verb ∷ words) ≡ Some command
     line name words are =
-        line_is_plain (name ∷ verb ∷ words) ∙ rw other (ap (λ vs. option_and_then (asked_with verb) vs) are) ∙ asks
+        line_is_plain (name ∷ verb ∷ words) ∙ rw (other, no_port) (ap (λ vs. option_and_then (asked_with verb) vs) are) ∙ asks
 
 -- ---- users and names
 
@@ -63,7 +63,7 @@ exports store user is = rw (user_taken user is) refl
 
 pub import_asked : ImportIsAsked
 import_asked store user name is named =
-    asked_plainly (codes "import") (store ∷ user ∷ name ∷ []) (Import store user name) refl (imports store user name is named)
+    asked_plainly (codes "import") (store ∷ user ∷ name ∷ []) (Import store user name) refl refl (imports store user name is named)
 
 pub export_asked : ExportIsAsked
-export_asked store user is = asked_plainly (codes "export") (store ∷ user ∷ []) (Export store user) refl (exports store user is)
+export_asked store user is = asked_plainly (codes "export") (store ∷ user ∷ []) (Export store user) refl refl (exports store user is)

@@ -6,7 +6,7 @@ use Rattle.std.specs.Option.{option_map_or}
 use Rattle.std.specs.Str.{bytes_eq, chars}
 use Rattle.std.specs.Cmp.Lexicographic.{same_text}
 use Rattle.clap.specs.Lexer.{long_of, name_and_value, short_of}
-use Rattle.clap.specs.Walk.{Held, Row, Step, Text, Waiting, Walk, after_step, arg_by_index, arg_by_long, arg_by_short, finished, idle, long_or_other, plain_word, subcommand_or_other, trailing, to_positional, value, walked}
+use Rattle.clap.specs.Walk.{Held, Row, Rule, Step, Text, Waiting, Walk, after_step, arg_by_index, arg_by_long, arg_by_short, finished, idle, long_met, long_or_other, plain_word, subcommand_or_other, trailing, to_positional, value, walked}
 use Rattle.clap.specs.Simple.{Shape}
 use Rattle.clap.specs.Kinds.{Kinds, or_else}
 use Rattle.clap.specs.Faults.{bundle_fault, bundle_step_fault, long_fault, short_fault, check_fault, defaults_fault, flag_word_fault, flags_fault, other_fault, settle_fault, step_fault, turn_fault, walk_fault}
@@ -209,6 +209,24 @@ module _ (s : Shape) (has_none : HasNoFlags s) (rows : List Row) (pending : Opti
   -- a flag is refused
   pub flag_fails : (word : Text) → bytes_eq word (codes "--") ≡ false → is_flag word ≡ true → is_taken (fault_at s rows pending word) ≡ false
   flag_fails = by_form s has_none.1 rows pending (λ word. is_taken (fault_at s rows pending word) ≡ false) long_fails (λ x xs other fails. fails)
+
+-- ---- what clap makes of a long flag of this argument and this value
+
+module _ (s : Shape) where
+  abbrev pub long_read : Held → Text → Option Rule → Option Text → Held × Step
+  long_read h word a v = after_flag s.rules idle word (long_met s.rules a v h).0 (long_met s.rules a v h).1
+
+  abbrev pub long_turn : Walk → Text → Option Rule → Option Text → Kinds
+  long_turn w word a v =
+      or_else (long_fault s.rules s.args_override_self a v w.held) (step_fault s w.position (long_read w.held word a v).0 (long_read w.held word a v).1)
+
+  abbrev pub long_walk : Walk → Text → Option Rule → Option Text → Walk
+  long_walk w word a v = after_step s.rules word w (long_read w.held word a v).0 (long_read w.held word a v).1
+
+  -- it reads the word as a long flag of this name and this value
+  abbrev pub IsLong : Walk → Text → Text → Option Text → Type 0
+  IsLong w word name v = (turn_fault s [] w word ≡ long_turn w word (arg_by_long s.rules name) v)
+      × (walked s.rules [] w word ≡ long_walk w word (arg_by_long s.rules name) v)
 
 -- ---- the three kinds of words
 

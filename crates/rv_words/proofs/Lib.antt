@@ -9,10 +9,12 @@ pub mod Makes
 pub mod Imports
 pub mod Rules
 pub mod Serving
+pub mod Following
 pub mod Lines
 pub mod Asked
 pub mod Commands
 pub mod ServeLaws
+pub mod FollowLaws
 pub mod Made
 pub mod Imported
 pub mod Pokes

@@ -14,13 +14,14 @@ use Rattle.clap.proofs.WalkLemmas.{walk_stopped}
 use Rattle.clap.proofs.FaultLemmas.{stopped_fault}
 use Rattle.clap.proofs.OnLiterals.{clap_on_literals}
 use Rattle.rv_words.specs.Table.{bare_app, commands, rv_app, with_commands}
-use Rattle.rv_words.specs.Words.{command_in, is_taken, command_named, export_in, import_in, make_in, on_store_in, retire_in, serve_in}
-use Rattle.rv_words.specs.Plain.{asked_with, is_flag, on_store_with, parts_from, plainly_in, serve_with, values_in}
+use Rattle.rv_words.specs.Words.{command_in, is_taken, command_named, export_in, follow_in, import_in, make_in, on_store_in, retire_in, serve_in}
+use Rattle.rv_words.specs.Plain.{asked_with, follow_with, is_flag, on_store_with, parts_from, plainly_in, serve_with, values_in}
 use Rattle.rv_words.specs.declared.command.Command.{Command}
 use Rattle.rv_words.proofs.Leaves.{HasNoFlags, at, flag_fails, more_fails, not_empty, plain_turn, read_from}
 use Rattle.rv_words.proofs.Makes.{make_1, make_leaf}
 use Rattle.rv_words.proofs.Imports.{export_0, export_leaf, import_0, import_leaf}
 use Rattle.rv_words.proofs.Serving.{served}
+use Rattle.rv_words.proofs.Following.{follow_leaf, followed}
 use Rattle.rv_words.proofs.Verbs.{retire_1, retire_leaf, serve_leaf, store_1, store_leaf}
 
 abbrev whole : App
@@ -97,6 +98,7 @@ pub record IsOtherVerb (verb : Text) : Type 0 where
   pub serve : bytes_eq verb (codes "serve") ≡ false
   pub close_book : bytes_eq verb (codes "close-book") ≡ false
   pub ship : bytes_eq verb (codes "ship") ≡ false
+  pub follow : bytes_eq verb (codes "follow") ≡ false
 
 top_flags : HasNoFlags top
 top_flags = (λ name. refl, λ letter. refl)
@@ -118,7 +120,8 @@ not_named verb is =
     let no_serve : bytes_eq (codes "serve") verb ≡ false = not_same verb (codes "serve") is.serve in
     let no_close_book : bytes_eq (codes "close-book") verb ≡ false = not_same verb (codes "close-book") is.close_book in
     let no_ship : bytes_eq (codes "ship") verb ≡ false = not_same verb (codes "ship") is.ship in
-    rw (no_feed, no_lists, no_activity, no_check, no_retire, no_make, no_import, no_export, no_serve, no_close_book, no_ship) refl
+    let no_follow : bytes_eq (codes "follow") verb ≡ false = not_same verb (codes "follow") is.follow in
+    rw (no_feed, no_lists, no_activity, no_check, no_retire, no_make, no_import, no_export, no_serve, no_close_book, no_ship, no_follow) refl
 
 turn_alone : (verb : Text) → subcommand_met names idle verb ≡ None → turn_fault top names begin verb ≡ turn_fault top [] (at [] None 1 false) verb
 turn_alone verb none = ap (λ o. or_else (other_fault top o verb begin.held)
@@ -164,6 +167,10 @@ serve_line : (name : Text) (words : List Text) → command_in (name ∷ codes "s
 unfolding clap_on_literals
 serve_line name words = named_line name (codes "serve") words serve_leaf serve_in (refl, refl, refl, λ rows. refl) ∙ served words
 
+follow_line : (name : Text) (words : List Text) → command_in (name ∷ codes "follow" ∷ words) ≡ option_and_then follow_with (parts_from None words)
+unfolding clap_on_literals
+follow_line name words = named_line name (codes "follow") words follow_leaf follow_in (refl, refl, refl, λ rows. refl) ∙ followed words
+
 verb_line : (name verb : Text) (words : List Text) → command_in (name ∷ verb ∷ words) ≡ plainly_in (name ∷ verb ∷ words)
 unfolding clap_on_literals
 verb_line name verb words =
@@ -179,8 +186,10 @@ verb_line name verb words =
     by_name P verb (codes "serve") (serve_line name words) (λ serve.
     by_name P verb (codes "close-book") (store_line (codes "close-book") (refl, refl, refl, λ rows. refl) name words) (λ close_book.
     by_name P verb (codes "ship") (store_line (codes "ship") (refl, refl, refl, λ rows. refl) name words) (λ ship.
-    let is : IsOtherVerb verb = record { feed = feed; retire = retire; lists = lists; activity = activity; check = check; make = make; import = import; export = export; serve = serve; close_book = close_book; ship = ship } in
-    other_line name verb words is ∙ sym (ap (λ b. cond b (option_and_then serve_with (parts_from None words)) (option_and_then (asked_with verb) (values_in words))) serve ∙ other_values verb (values_in words) is))))))))))))
+    by_name P verb (codes "follow") (follow_line name words) (λ follow.
+    let is : IsOtherVerb verb = record { feed = feed; retire = retire; lists = lists; activity = activity; check = check; make = make; import = import; export = export; serve = serve; close_book = close_book; ship = ship; follow = follow } in
+    other_line name verb words is ∙ sym (ap₂ (λ b c. cond b (option_and_then serve_with (parts_from None words)) (cond c (option_and_then follow_with (parts_from None words)) (option_and_then (asked_with verb) (values_in words)))) serve follow
+    ∙ other_values verb (values_in words) is)))))))))))))
 
 pub line_is_plain : (words : List Text) → command_in words ≡ plainly_in words
 unfolding command_in rv_app clap_on_literals

@@ -6,11 +6,11 @@ use Rattle.std.specs.Str.{bytes_eq, chars}
 use Rattle.std.specs.Cmp.Lexicographic.{same_text}
 use Rattle.clap.specs.Lexer.{name_and_value}
 use Rattle.clap.specs.Kinds.{Kinds, or_else}
-use Rattle.clap.specs.Walk.{Held, Row, Rule, Step, Text, Waiting, Walk, after_flag, after_step, arg_by_index, arg_by_long, has_row, idle, is_pending, long_met, next, option, option_word, pushed, settled, settled_rows, to_positional, used, value, walked}
+use Rattle.clap.specs.Walk.{Held, Row, Rule, Step, Text, Waiting, Walk, after_step, arg_by_index, arg_by_long, has_row, idle, is_pending, next, option, option_word, pushed, settled, settled_rows, to_positional, used, value, walked}
 use Rattle.clap.specs.Faults.{long_fault, settle_fault, step_fault, turn_fault, use_fault, walk_fault}
 use Rattle.rv_words.specs.Words.{is_taken, serve_in}
 use Rattle.rv_words.specs.Plain.{Part, is_flag, is_option, option_name, option_value, parts_from, serve_with, with_part}
-use Rattle.rv_words.proofs.Leaves.{hyphen_counts, at, by_form, fault_at, goes, held, not_empty, plain_met, plain_turn, plain_walk, refuses}
+use Rattle.rv_words.proofs.Leaves.{IsLong, hyphen_counts, at, by_form, fault_at, goes, held, long_turn, long_walk, not_empty, plain_met, plain_turn, plain_walk, refuses}
 use Rattle.rv_words.proofs.Parts.{AreOnce, asked, asked_more, asks_nothing, has_row_last, has_row_more, needs_store, once_more, rows_more, rows_with, serves_twice}
 use Rattle.rv_words.proofs.Verbs.{serve_leaf}
 use Rattle.rv_words.proofs.Rules.{Broken, Ended, Fine, Holds, Idle, IsOption, IsStored, WaitsForWord, ends, is_known, known_option, no_letters, option_rule, pending_holds, position_for, reads, rules, settled_holds, store, store_once, store_rule, stores, unknown_option, waits_at}
@@ -68,20 +68,6 @@ ended_word word words rest rows pending parts stored holds has =
 
 -- ---- a word that is an option
 
--- what clap makes of a long flag of this argument and this value
-abbrev long_read : Held → Text → Option Rule → Option Text → Held × Step
-long_read h word a v = after_flag rules idle word (long_met rules a v h).0 (long_met rules a v h).1
-
-abbrev long_turn : Walk → Text → Option Rule → Option Text → Kinds
-long_turn w word a v = or_else (long_fault rules false a v w.held) (step_fault serve_leaf w.position (long_read w.held word a v).0 (long_read w.held word a v).1)
-
-abbrev long_walk : Walk → Text → Option Rule → Option Text → Walk
-long_walk w word a v = after_step rules word w (long_read w.held word a v).0 (long_read w.held word a v).1
-
-abbrev IsLong : Walk → Text → Text → Option Text → Type 0
-IsLong w word name v = (turn_fault serve_leaf [] w word ≡ long_turn w word (arg_by_long rules name) v)
-    × (walked rules [] w word ≡ long_walk w word (arg_by_long rules name) v)
-
 -- the parts of an option and the words after it
 abbrev option_parts : Text → Option Text → List Text → Option (List Part)
 option_parts name v words = option_map_or (λ x. with_part (name, x) (parts_from None words)) v (parts_from (Some name) words)
@@ -95,28 +81,28 @@ module _ (rows : List Row) (pending : Option (Text × List Text)) (parts : List 
   h = held rows pending
 
   -- an option after one that is given twice
-  after_twice : (name : Text) (v : Option Text) → Broken rows pending parts → IsOption name → IsLong here word name v
+  after_twice : (name : Text) (v : Option Text) → Broken rows pending parts → IsOption name → IsLong serve_leaf here word name v
       → reads here (word ∷ words) ≡ asked parts (option_parts name v words)
   after_twice name None broken is long =
       refuses serve_leaf serve_in here word words
-      (ap is_taken (long.0 ∙ ap (λ a. long_turn here word a None) is.by_long) ∙ not_empty (settle_fault rules false h) [] broken.fails)
+      (ap is_taken (long.0 ∙ ap (λ a. long_turn serve_leaf here word a None) is.by_long) ∙ not_empty (settle_fault rules false h) [] broken.fails)
       ∙ sym (asks_nothing parts (option_parts name None words) broken.serves)
   after_twice name (Some v) broken is long =
       refuses serve_leaf serve_in here word words
-      (ap is_taken (long.0 ∙ ap (λ a. long_turn here word a (Some v)) is.by_long)
+      (ap is_taken (long.0 ∙ ap (λ a. long_turn serve_leaf here word a (Some v)) is.by_long)
       ∙ not_empty _ [] (not_empty (settle_fault rules false h) (use_fault false (option_rule name) (v ∷ []) (settled_rows rules pending rows)) broken.fails))
       ∙ sym (asks_nothing parts (option_parts name (Some v) words) broken.serves)
 
   -- an option whose value is in the next word
-  bare : (name : Text) → Fine rows pending parts → IsOption name → IsLong here word name None → reads here (word ∷ words) ≡ asked parts (parts_from (Some name) words)
+  bare : (name : Text) → Fine rows pending parts → IsOption name → IsLong serve_leaf here word name None → reads here (word ∷ words) ≡ asked parts (parts_from (Some name) words)
   bare name fine is long =
       goes serve_leaf serve_in here (waits_at (rows_with parts) name (position_for stored) false) word words
-      (long.0 ∙ ap (λ a. long_turn here word a None) is.by_long ∙ ap (λ k. or_else k []) fine.settles)
-      (long.1 ∙ ap (λ a. long_walk here word a None) is.by_long ∙ ap (λ rs. waits_at rs name (position_for stored) false) fine.rows_are)
+      (long.0 ∙ ap (λ a. long_turn serve_leaf here word a None) is.by_long ∙ ap (λ k. or_else k []) fine.settles)
+      (long.1 ∙ ap (λ a. long_walk serve_leaf here word a None) is.by_long ∙ ap (λ rs. waits_at rs name (position_for stored) false) fine.rows_are)
       ∙ waits parts stored name is fine.once has
 
   -- an option with its value
-  joined : (name v : Text) → Fine rows pending parts → IsOption name → IsLong here word name (Some v)
+  joined : (name v : Text) → Fine rows pending parts → IsOption name → IsLong serve_leaf here word name (Some v)
       → reads here (word ∷ words) ≡ asked parts (with_part (name, v) (parts_from None words))
   joined name v fine is long = go (has_row name (rows_with parts)) refl
     where
@@ -124,7 +110,7 @@ module _ (rows : List Row) (pending : Option (Text × List Text)) (parts : List 
       a = option_rule name
 
       turn_is : turn_fault serve_leaf [] here word ≡ or_else (use_fault false (option_rule name) (v ∷ []) (rows_with parts)) []
-      turn_is = long.0 ∙ ap (λ o. long_turn here word o (Some v)) is.by_long
+      turn_is = long.0 ∙ ap (λ o. long_turn serve_leaf here word o (Some v)) is.by_long
           ∙ ap₂ (λ (k : Kinds) (rs : List Row). or_else (or_else k (use_fault false (option_rule name) (v ∷ []) rs)) []) fine.settles fine.rows_are
 
       go : (b : Bool) → has_row name (rows_with parts) ≡ b → reads here (word ∷ words) ≡ asked parts (with_part (name, v) (parts_from None words))
@@ -136,7 +122,7 @@ module _ (rows : List Row) (pending : Option (Text × List Text)) (parts : List 
       go false new =
           goes serve_leaf serve_in here (at (rows_with (parts ++ (name, v) ∷ [])) None (position_for stored) false) word words
           (turn_is ∙ ap (λ k. or_else k []) (is.once.fine v (rows_with parts) new))
-          (long.1 ∙ ap (λ o. long_walk here word o (Some v)) is.by_long
+          (long.1 ∙ ap (λ o. long_walk serve_leaf here word o (Some v)) is.by_long
           ∙ ap (λ rs. at (used (option_rule name) (v ∷ []) rs) None (position_for stored) false) fine.rows_are
           ∙ ap (λ rs. at rs None (position_for stored) false) (is.once.adds v (rows_with parts) new ∙ rows_more parts (name, v)))
           ∙ idles (rows_with (parts ++ (name, v) ∷ [])) None (parts ++ (name, v) ∷ []) stored
@@ -144,7 +130,7 @@ module _ (rows : List Row) (pending : Option (Text × List Text)) (parts : List 
           (λ e. has_row_more parts ((name, v) ∷ []) store (has e))
           ∙ sym (asked_more parts (name, v) (parts_from None words))
 
-  an_option : (name : Text) (v : Option Text) → Holds rows pending parts → IsOption name → IsLong here word name v
+  an_option : (name : Text) (v : Option Text) → Holds rows pending parts → IsOption name → IsLong serve_leaf here word name v
       → reads here (word ∷ words) ≡ asked parts (option_parts name v words)
   an_option name v (inr broken) is long = after_twice name v broken is long
   an_option name None (inl fine) is long = bare name fine is long

@@ -109,6 +109,7 @@ pub record AskForNothing : Type 0 where
   pub serve_alone : (name : List ℕ) → command_in (name ∷ codes "serve" ∷ []) ≡ None
   pub close_book_alone : (name : List ℕ) → command_in (name ∷ codes "close-book" ∷ []) ≡ None
   pub ship_alone : (name : List ℕ) → command_in (name ∷ codes "ship" ∷ []) ≡ None
+  pub follow_alone : (name : List ℕ) → command_in (name ∷ codes "follow" ∷ []) ≡ None
   pub no_requests : (name seed : List ℕ) → command_in (name ∷ codes "make" ∷ seed ∷ []) ≡ None
   pub no_group : (name store : List ℕ) → command_in (name ∷ codes "retire" ∷ store ∷ []) ≡ None
   pub no_user : (name store : List ℕ) → command_in (name ∷ codes "import" ∷ store ∷ []) ≡ None
@@ -119,5 +120,5 @@ pub record AskForNothing : Type 0 where
 abbrev pub OthersAskForNothing : Type 0
 OthersAskForNothing = (name verb : List ℕ) (words : List (List ℕ))
     → verb ≢ codes "feed" → verb ≢ codes "retire" → verb ≢ codes "lists" → verb ≢ codes "activity" → verb ≢ codes "check" → verb ≢ codes "make"
-    → verb ≢ codes "import" → verb ≢ codes "export" → verb ≢ codes "serve" → verb ≢ codes "close-book" → verb ≢ codes "ship"
+    → verb ≢ codes "import" → verb ≢ codes "export" → verb ≢ codes "serve" → verb ≢ codes "close-book" → verb ≢ codes "ship" → verb ≢ codes "follow"
     → command_in (name ∷ verb ∷ words) ≡ None

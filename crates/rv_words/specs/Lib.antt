@@ -4,3 +4,4 @@ pub mod Words
 pub mod Plain
 pub mod Laws
 pub mod ServeLaws
+pub mod FollowLaws

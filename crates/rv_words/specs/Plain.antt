@@ -3,7 +3,7 @@ use Rattle.std.specs.Prelude.{ℕ, ◌==◌, ◌&&◌, ◌++◌, List, [], ◌�
 use Rattle.std.specs.List.{after_first, before_first, list_any}
 use Rattle.std.specs.Option.{option_map_or}
 use Rattle.std.specs.Str.{bytes_eq, chars}
-use Rattle.rv_words.specs.Words.{export_of, import_of, make_of, on_store, retire_group_in, serve_by}
+use Rattle.rv_words.specs.Words.{export_of, follow_of, import_of, make_of, on_store, retire_group_in, serve_by}
 use Rattle.rv_words.specs.declared.command.Command.{Command}
 
 -- a `-` (45) with a character after it
@@ -48,17 +48,17 @@ asked_with verb values =
     else if bytes_eq verb (codes "export") then export_with values
     else on_store_with verb values
 
--- ---- serve
+-- ---- commands with options
 
 -- a name with its value: STORE, or an option's
 abbrev pub Part : Type 0
 Part = List ℕ × List ℕ
 
--- the options that must be given
+-- the options that `serve` must be given
 abbrev pub needed_names : List (List ℕ)
 needed_names = codes "accounts" ∷ codes "port" ∷ codes "workers" ∷ codes "connections" ∷ []
 
--- the options that may be left out, with the values that they then have
+-- the options of `serve` that may be left out, with the values that they then have
 abbrev pub defaults : List Part
 defaults = (codes "poke-port", codes "8091") ∷ (codes "pokes", codes "0") ∷ []
 
@@ -73,16 +73,17 @@ abbrev pub option_value : List ℕ → Option (List ℕ)
 option_value word =
     if list_any (λ byte. byte == 61) (drop 2 word) then Some (after_first (λ byte. byte == 61) (drop 2 word)) else None
 
--- the word is `--NAME` or `--NAME=VALUE` of an option
+-- the word is `--NAME` or `--NAME=VALUE` of an option of `serve`; `follow` has `--port` alone
 abbrev pub is_option : List ℕ → Bool
 is_option word = bytes_eq (take 2 word) (codes "--") && list_any (λ name. bytes_eq name (option_name word)) option_names
 
 abbrev pub with_part : Part → Option (List Part) → Option (List Part)
 with_part part = option_map (λ parts. part ∷ parts)
 
--- The words after `serve` as names with their values, in the order of the words. The first argument is the option that
--- waits for its value, which the next word is if it is no flag. Where none waits, each word after a first `--` is a
--- STORE, an option has its value in its word or waits for it, no other word may be a flag, and what is none is a STORE.
+-- The words after `serve` or `follow` as names with their values, in the order of the words. The first argument is the
+-- option that waits for its value, which the next word is if it is no flag. Where none waits, each word after a first
+-- `--` is a STORE, an option has its value in its word or waits for it, no other word may be a flag, and what is none is
+-- a STORE.
 abbrev pub parts_from : Option (List ℕ) → List (List ℕ) → Option (List Part)
 parts_from None [] = Some []
 parts_from (Some name) [] = None
@@ -115,11 +116,17 @@ the_value parts name = the_only (values_or (part_values parts name) (part_values
 abbrev pub serve_with : List Part → Option Command
 serve_with parts = serve_by (the_value parts)
 
+-- `follow` is given a port, once, and nothing else
+abbrev pub follow_with : List Part → Option Command
+follow_with (part ∷ []) = if bytes_eq part.0 (codes "port") then follow_of part.1 else None
+follow_with other = None
+
 -- ---- every line
 
 -- the program's name, the command's, and its values
 abbrev pub plainly_in : List (List ℕ) → Option Command
 plainly_in (name ∷ verb ∷ words) =
     if bytes_eq verb (codes "serve") then option_and_then serve_with (parts_from None words)
+    else if bytes_eq verb (codes "follow") then option_and_then follow_with (parts_from None words)
     else option_and_then (asked_with verb) (values_in words)
 plainly_in other = None

@@ -45,6 +45,10 @@ serve_options =
 abbrev pub serve_app : App
 serve_app = fold with_rule (store_app (codes "serve")) serve_options
 
+-- follow --port PORT
+abbrev pub follow_app : App
+follow_app = with_rule (new_app (codes "follow")) (required_option (codes "port"))
+
 -- one of the commands must be named, and nothing asks for help or for the version
 abbrev pub bare_app : App
 bare_app = on_top (λ shape. record shape {
@@ -57,7 +61,7 @@ bare_app = on_top (λ shape. record shape {
 abbrev pub commands : List App
 commands =
     store_app (codes "feed") ∷ store_app (codes "lists") ∷ store_app (codes "activity") ∷ store_app (codes "check") ∷ retire_app ∷ make_app ∷ import_app ∷ export_app ∷ serve_app
-    ∷ store_app (codes "close-book") ∷ store_app (codes "ship") ∷ []
+    ∷ store_app (codes "close-book") ∷ store_app (codes "ship") ∷ follow_app ∷ []
 
 abbrev pub with_commands : App → List App → App
 with_commands = fold (λ app command. with_subcommand app command.top)

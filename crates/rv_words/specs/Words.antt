@@ -8,7 +8,7 @@ use Rattle.rv_base.specs.Options.{◌>>=◌}
 use Rattle.rv_words.specs.Numbers.{number_in}
 use Rattle.rv_words.specs.Table.{rv_app}
 use Rattle.rv_words.specs.declared.command.Command.{Command}
-use Rattle.rv_words.specs.declared.command.Command.TheVariants.{Activity, Check, CloseBook, Export, Feed, Import, Lists, Make, Retire, Serve, Ship}
+use Rattle.rv_words.specs.declared.command.Command.TheVariants.{Activity, Check, CloseBook, Export, Feed, Follow, Import, Lists, Make, Retire, Serve, Ship}
 use Rattle.rv_words.specs.declared.serve_options.ServeOptions.{ServeOptions}
 
 -- the text is an `Id`
@@ -82,6 +82,13 @@ serve_by given = option_and_then (λ store. option_map (λ options. Serve store 
 abbrev pub serve_in : List Row → Option Command
 serve_in rows = serve_by (λ name. first_of name rows)
 
+-- what `follow` asks for with the number of a port
+abbrev pub follow_of : Text → Option Command
+follow_of text = option_map (λ port. Follow port) (number_in 1 65535 text)
+
+abbrev pub follow_in : List Row → Option Command
+follow_in rows = option_and_then follow_of (first_of (codes "port") rows)
+
 -- what the command that was named asks for with its values
 abbrev pub command_named : Text × List Row → Option Command
 command_named named =
@@ -90,6 +97,7 @@ command_named named =
     else if bytes_eq named.0 (codes "import") then import_in named.1
     else if bytes_eq named.0 (codes "export") then export_in named.1
     else if bytes_eq named.0 (codes "serve") then serve_in named.1
+    else if bytes_eq named.0 (codes "follow") then follow_in named.1
     else on_store_in named.0 named.1
 
 -- clap's command takes the words

@@ -75,4 +75,9 @@ pub enum Command {
         /// The name of the store.
         store: Name,
     },
+    /// `follow --port PORT`: answer pulls from the book that the lines of one connection tell.
+    Follow {
+        /// The port at which the connection is accepted, from 1 to 65,535.
+        port: u16,
+    },
 }

@@ -1,4 +1,5 @@
 //! What follows of what the words ask for, as contracts of functions that do nothing: a check of the crate proves them.
+ghost use Rattle.rv_words.specs.FollowLaws.{FollowIsAsked, OnlyAPortIsFollowed, PortsAreInBounds};
 ghost use Rattle.rv_words.specs.ServeLaws.{EachOptionStandsOnce, NoOtherFlagStands, NumbersAreInBounds, PokesAreAsked, PokesHaveDefaults, ServeIsAsked};
 ghost use Rattle.rv_words.specs.Laws.{
   AskForNothing,
@@ -18,7 +19,7 @@ ghost use Rattle.rv_words.specs.Laws.{
 
 /// What `clap` makes of any words is what they ask for said without `clap`: the program's name, the command's, and its
 /// values, among which a first `--` is none and no other word before it begins with `-` and goes on, but for the options
-/// of `serve`.
+/// of `serve` and of `follow`.
 pub fn lines_are_plain()
     ensures { LinesArePlain }
 {}
@@ -123,4 +124,20 @@ pub fn each_option_stands_once()
 /// A line of `serve` with a flag before a first `--` that is none of its options asks for nothing.
 pub fn no_other_flag_stands()
     ensures { NoOtherFlagStands }
+{}
+
+/// The words `follow --port PORT` and `follow --port=PORT` ask for that, for each port from 1 to 65,535 in decimal, and with
+/// `--` after the first too.
+pub fn follow_is_asked()
+    ensures { FollowIsAsked }
+{}
+
+/// Words that ask to follow name a port from 1 to 65,535.
+pub fn ports_are_in_bounds()
+    ensures { PortsAreInBounds }
+{}
+
+/// A line of `follow` that gives anything but one port asks for nothing: no port, two, a store, another option.
+pub fn only_a_port_is_followed()
+    ensures { OnlyAPortIsFollowed }
 {}

@@ -3,7 +3,7 @@ ghost use Rattle.std.specs.Int.{IsInRange};
 ghost use Rattle.std.specs.Prelude.{◌≡◌, IfOk, IfSome, codes, map, option_and_then, option_map, string_bytes};
 ghost use Rattle.clap.specs.Words.{first_of, found_of, rows_of, subcommand_rows_of};
 ghost use Rattle.rv_words.specs.Numbers.{number_in};
-ghost use Rattle.rv_words.specs.Words.{as_import_name, as_user, command_in, command_named, export_in, export_of, import_in, import_of, make_in, make_of, on_store, on_store_in, options_with, retire_in, retire_group_in, serve_in, Parses};
+ghost use Rattle.rv_words.specs.Words.{as_import_name, as_user, command_in, command_named, export_in, export_of, follow_in, import_in, import_of, make_in, make_of, on_store, on_store_in, options_with, retire_in, retire_group_in, serve_in, Parses};
 
 use crate::command::{Command, ImportName};
 use crate::name::Name;
@@ -249,6 +249,13 @@ fn serve(alloc: Global, matches: &ArgMatches<'_>) -> Result<Option<Command>, Mem
     Ok(Some(Command::Serve { store, options }))
 }
 
+fn follow(matches: &ArgMatches<'_>) -> Option<Command>
+    ensures { result ≡ follow_in (rows_of (found_of matches.now)) }
+{
+    let port = number_at(matches, "port", 1, 65_535)?;
+    Some(Command::Follow { port: port as u16 })
+}
+
 // What the command of this name asks for, with what was found for it.
 fn named(alloc: Global, name: &str, matches: &ArgMatches<'_>) -> Result<Option<Command>, Memory>
     ensures { IfOk result (λ command. command ≡ command_named (name.now, rows_of (found_of matches.now))) }
@@ -259,6 +266,7 @@ fn named(alloc: Global, name: &str, matches: &ArgMatches<'_>) -> Result<Option<C
         "import" => import(alloc, matches),
         "export" => export(alloc, matches),
         "serve" => serve(alloc, matches),
+        "follow" => Ok(follow(matches)),
         verb => on_found_store(alloc, verb, matches),
     }
 }

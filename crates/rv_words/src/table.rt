@@ -2,7 +2,7 @@
 ghost use Rattle.std.specs.Prelude.{◌≡◌, IfOk, false};
 ghost use Rattle.clap.specs.Words.{app_of, with_rule};
 ghost use Rattle.clap.specs.declared.builder.command.Command.TheViews.{out-Command};
-ghost use Rattle.rv_words.specs.Table.{bare_app, export_app, import_app, option_with_default, required_option, required_value, make_app, retire_app, rv_app, serve_app, store_app};
+ghost use Rattle.rv_words.specs.Table.{bare_app, export_app, follow_app, import_app, option_with_default, required_option, required_value, make_app, retire_app, rv_app, serve_app, store_app};
 
 use clap::{Arg, Command};
 use std::alloc::{AllocError, Global};
@@ -95,6 +95,13 @@ fn serve<'a>(alloc: Global) -> Result<Command<'a>, AllocError>
     with_default(alloc, command, "pokes", "0")
 }
 
+fn follow<'a>(alloc: Global) -> Result<Command<'a>, AllocError>
+    ensures app { IfOk result (λ r. app_of r ≡ follow_app) }
+    ensures local { IfOk result (λ r. (out-Command r).has_globals ≡ false) }
+{
+    with_option(alloc, Command::new(alloc, "follow"), "port")
+}
+
 // No command yet, and no call for help.
 fn bare<'a>(alloc: Global) -> Command<'a>
     ensures app { app_of result ≡ bare_app }
@@ -122,5 +129,6 @@ pub fn rv<'a>(alloc: Global) -> Result<Command<'a>, AllocError>
         .subcommand(export(alloc)?)?
         .subcommand(serve(alloc)?)?
         .subcommand(of_store(alloc, "close-book")?)?
-        .subcommand(of_store(alloc, "ship")?)
+        .subcommand(of_store(alloc, "ship")?)?
+        .subcommand(follow(alloc)?)
 }

@@ -1,5 +1,5 @@
 use crate::cells::{copied, put, remove};
-use crate::running::{Finished, Pieces, run_alone};
+use crate::running::{Finished, Pieces, run_alone, run_connected};
 use rv_base::Memory;
 use rv_keeper::{Fails, MemoryPlace, Schedule, Shelves};
 use std::alloc::Global;
@@ -8,6 +8,17 @@ use std::thread::Threads;
 use trial_stage::Part::Text;
 use trial_stage::{Stage, joined, text_of, words_at};
 
+/// Where the bytes of an input come from.
+#[derive(Clone, Copy)]
+pub enum Way {
+    /// From the input of the program.
+    Input,
+    /// From the one connection that comes.
+    Connection,
+    /// From nowhere: none comes.
+    NoConnection,
+}
+
 /// The words of a command line, an input, and the store that they run on.
 #[derive(Drop)]
 pub struct Case {
@@ -15,6 +26,8 @@ pub struct Case {
     pub words: Vec<String>,
     /// The bytes of the input.
     pub input: Vec<u8>,
+    /// Where they come from.
+    pub way: Way,
     /// The store is `kept`, one of the place; else it is `memory`.
     pub is_stated: bool,
     /// The cells that it holds at first.
@@ -44,6 +57,7 @@ impl Case {
         Case {
             words: Vec::new(alloc),
             input: Vec::new(alloc),
+            way: Way::Input,
             is_stated: false,
             shelves: Shelves::new(alloc),
             generation: 0,
@@ -94,6 +108,12 @@ impl Case {
             add_line(&mut input, "{\"stop\":true}")?;
         }
         Ok(input)
+    }
+
+    /// Has the input come another way.
+    pub fn come(&mut self, way: Way) -> Result<(), Memory> {
+        self.way = way;
+        Ok(())
     }
 
     /// The name of the store.
@@ -199,7 +219,11 @@ impl Case {
         pieces: Pieces,
     ) -> Result<Finished, Memory> {
         let mut place = self.new_place(stage.host.alloc())?;
-        run_alone(stage, &self.words, &mut place, input, pieces)
+        match self.way {
+            Way::Input => run_alone(stage, &self.words, &mut place, input, pieces),
+            Way::Connection => run_connected(stage, &self.words, &mut place, Some(input), pieces),
+            Way::NoConnection => run_connected(stage, &self.words, &mut place, None, pieces),
+        }
     }
 
     /// Runs the case over a place of its own.

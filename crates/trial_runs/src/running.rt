@@ -2,7 +2,7 @@
 use rv_base::{Memory, MemorySink, MemorySource};
 use rv_cli::run;
 use rv_keeper::Place;
-use rv_net::MemoryNet;
+use rv_net::{Conn, MemoryConn, MemoryListen, MemoryNet};
 use rv_workers::{Bells, Threaded};
 use std::alloc::Global;
 use std::sync::Wait;
@@ -126,6 +126,59 @@ pub fn run_over<R: Threads + Wait + Sync, P: Place>(
         written: out.bytes,
         faults: (input.faults, out.faults),
     })
+}
+
+/// A connection that sends these bytes.
+pub fn conn_of(alloc: Global, bytes: &[u8], pieces: Pieces) -> Result<MemoryConn, Memory> {
+    Ok(Conn {
+        source: source(alloc, bytes, pieces)?,
+        sink: sink(alloc, pieces)?,
+    })
+}
+
+// A net of one listener, to which a connection comes that sends these bytes; or none does.
+fn net_of(alloc: Global, bytes: Option<&[u8]>, pieces: Pieces) -> Result<MemoryNet, Memory> {
+    let mut conns = Vec::new(alloc);
+    if let Some(bytes) = bytes {
+        conns.push(conn_of(alloc, bytes, pieces)?)?;
+    }
+    let mut listeners = Vec::new(alloc);
+    listeners.push(MemoryListen::new(alloc, conns)?)?;
+    MemoryNet::new(alloc, listeners, Vec::new(alloc), Vec::new(alloc))
+}
+
+// What was written to the connections that came back to a net, and then to the output, with the faults of all.
+fn with_conns(alloc: Global, net: &MemoryNet, finished: &Finished) -> Result<Finished, Memory> {
+    let mut written = Vec::new(alloc);
+    let (mut read_faults, mut write_faults) = finished.faults;
+    for listener in &net.listeners.came_back {
+        for conn in &listener.came_back {
+            written.extend_from_slice(&conn.sink.bytes)?;
+            read_faults = read_faults.saturating_add(conn.source.faults);
+            write_faults = write_faults.saturating_add(conn.sink.faults);
+        }
+    }
+    written.extend_from_slice(&finished.written)?;
+    Ok(Finished {
+        status: finished.status,
+        written,
+        faults: (read_faults, write_faults),
+    })
+}
+
+/// Runs words over a place, no input, and a net of one listener, to which a connection comes that sends these bytes; or none does. What
+/// is written to it comes first.
+pub fn run_connected<R: Threads + Wait + Sync, P: Place>(
+    stage: &Stage<'_, R>,
+    words: &[String],
+    place: &mut P,
+    bytes: Option<&[u8]>,
+    pieces: Pieces,
+) -> Result<Finished, Memory> {
+    let alloc = stage.host.alloc();
+    let mut net = net_of(alloc, bytes, pieces)?;
+    let finished = run_over(stage, words, place, b"", pieces, &mut net)?;
+    with_conns(alloc, &net, &finished)
 }
 
 /// Runs words over a place and these bytes as the input, and a net that has no listener.

@@ -1,5 +1,5 @@
 // Scripts over stores in memory.
-use crate::case::Case;
+use crate::case::{Case, Way};
 use crate::running::Pieces;
 use crate::{faults, stores, views};
 use rv_base::Memory;
@@ -45,6 +45,7 @@ enum Change {
     BeforeFails,
     AfterFails,
     MemoryRefused,
+    Comes(Way),
 }
 
 // What a command does.
@@ -54,7 +55,7 @@ enum Command {
     Changes(Change),
 }
 
-static COMMANDS: [(&str, Command); 27] = [
+static COMMANDS: [(&str, Command); 29] = [
     ("run", Command::Plays(Play::Run)),
     ("once", Command::Plays(Play::Once)),
     ("stops", Command::Plays(Play::Stops)),
@@ -82,6 +83,14 @@ static COMMANDS: [(&str, Command); 27] = [
     ("before", Command::Changes(Change::BeforeFails)),
     ("after", Command::Changes(Change::AfterFails)),
     ("memory", Command::Changes(Change::MemoryRefused)),
+    (
+        "connection",
+        Command::Changes(Change::Comes(Way::Connection)),
+    ),
+    (
+        "no-connection",
+        Command::Changes(Change::Comes(Way::NoConnection)),
+    ),
 ];
 
 // Runs the case in pieces of 1, 7 and 100,000 bytes, and prints what comes where it is the same.
@@ -143,7 +152,8 @@ fn played<R: Threads + Wait + Sync>(
 // ends, `line TEXT` one that LF ends, `byte N` a byte, `blanks N` so many blanks. `cell SHELF KEY BODY` writes a cell of the store, over
 // one at its place, `remove SHELF KEY` takes one away, and `generation-is N` sets its generation. `open N` fails the Nth call for a keeper; `load N`,
 // `generation N`, `before N` and `after N` the keeper's Nth load, its Nth question for the generation, and its Nth commit, before
-// its changes and after them; `memory N` has memory refused to its Nth commit.
+// its changes and after them; `memory N` has memory refused to its Nth commit. After `connection` the lines come over a connection, and
+// what is written to it is told before what is written to the output; after `no-connection` no connection comes.
 fn make_change(alloc: Global, case: &mut Case, change: Change, rest: &str) -> Result<(), Memory> {
     let number = number_in(rest).unwrap_or(0);
     match change {
@@ -162,6 +172,7 @@ fn make_change(alloc: Global, case: &mut Case, change: Change, rest: &str) -> Re
         Change::BeforeFails => case.fail(Fails::Before(number)),
         Change::AfterFails => case.fail(Fails::After(number)),
         Change::MemoryRefused => case.fail(Fails::Memory(number)),
+        Change::Comes(way) => case.come(way),
     }
 }
 

@@ -1,8 +1,8 @@
-// `serve` over listeners of connections and of links in memory, in threads.
+// `serve` and `follow` over listeners of connections and of links in memory, in threads.
 use crate::machine::run_here;
-use crate::running::{Pieces, failing};
-use rv_base::{Bytes, Memory, MemorySink, MemorySource};
-use rv_net::{Conn, MemoryConn, MemoryListen, MemoryNet, MemoryStock, Wanted};
+use crate::running::{Pieces, conn_of, failing};
+use rv_base::{Bytes, Memory};
+use rv_net::{MemoryConn, MemoryListen, MemoryNet, MemoryStock, Wanted};
 use rv_place::Unknown;
 use rv_poke::{First, MemoryLink};
 use std::alloc::Global;
@@ -49,12 +49,8 @@ fn plan_of(text: &str) -> (Plan, &str) {
 
 // A listener of one connection, which sends these bytes.
 fn listener(alloc: Global, bytes: &[u8]) -> Result<MemoryListen<MemoryConn>, Memory> {
-    let bytes = Vec::from_slice(alloc, bytes)?;
     let mut conns = Vec::new(alloc);
-    conns.push(Conn {
-        source: MemorySource::new(bytes, 1000, Vec::new(alloc)),
-        sink: MemorySink::new(alloc, 1000, Vec::new(alloc)),
-    })?;
+    conns.push(conn_of(alloc, bytes, Pieces::of(1000))?)?;
     MemoryListen::new(alloc, conns)
 }
 

@@ -46,6 +46,10 @@ pub returns-in-Ok-Some-Make-clause-command : goal.returns-in-Ok-Some-Make-clause
 returns-in-Ok-Some-Make-clause-command g c =
     obeys _ _ _ _ (rw (c.in-Ok-Some-Make.field-0-is, c.in-Ok-Some-Make.field-0-0-is) at c.in-Ok-Some-Make.ensures) (record { made = c.run_make.ensures.make; complete = c.run_make.ensures.complete; place = refl; input = refl; net = refl })
 
+pub returns-in-Ok-Some-Follow-clause-command : goal.returns-in-Ok-Some-Follow-clause-command
+returns-in-Ok-Some-Follow-clause-command g c =
+    obeys _ _ _ _ (rw (c.in-Ok-Some-Follow.field-0-is, c.in-Ok-Some-Follow.field-0-0-is) at c.in-Ok-Some-Follow.ensures) (record { followed = c.run_follow.ensures.followed; complete = c.run_follow.ensures.complete; steady = c.run_follow.ensures.steady_net; place = refl; input = refl })
+
 pub returns-in-Ok-None-clause-command : goal.returns-in-Ok-None-clause-command
 returns-in-Ok-None-clause-command g c =
     obeys _ _ _ _ (rw c.in-Ok-None.field-0-is at c.in-Ok-None.ensures) (record { is = c.refuse_words.ensures.status; told = c.refuse_words.ensures.text; place = refl; input = refl; net = refl })

@@ -16,5 +16,6 @@ returns c =
     let export = subcommand_added _ _ _ _ _ c.in_ok-subcommand-8.ensures c.in_ok-export.ensures.local import c.in_ok-export.ensures.app in
     let serve = subcommand_added _ _ _ _ _ c.in_ok-subcommand-9.ensures c.in_ok-serve.ensures.local export c.in_ok-serve.ensures.app in
     let close_book = subcommand_added _ _ _ _ _ c.in_ok-subcommand-10.ensures c.in_ok-of_store-5.ensures.local serve c.in_ok-of_store-5.ensures.app in
-    IfOk-weaker c.subcommand-11.result _ _ (λ r adds. subcommand_added _ _ r _ _ adds c.in_ok-of_store-6.ensures.local close_book c.in_ok-of_store-6.ensures.app)
-    c.subcommand-11.ensures
+    let ship = subcommand_added _ _ _ _ _ c.in_ok-subcommand-11.ensures c.in_ok-of_store-6.ensures.local close_book c.in_ok-of_store-6.ensures.app in
+    IfOk-weaker c.subcommand-12.result _ _ (λ r adds. subcommand_added _ _ r _ _ adds c.in_ok-follow.ensures.local ship c.in_ok-follow.ensures.app)
+    c.subcommand-12.ensures
