@@ -12,3 +12,4 @@ pub mod MadeSteps
 pub mod AddingUp
 pub mod StoreLaws
 pub mod ImportLaws
+pub mod FollowedLaws

@@ -5,3 +5,4 @@ pub mod Serves
 pub mod Makes
 pub mod Stores
 pub mod Imports
+pub mod Follows

@@ -1,4 +1,4 @@
-//! What follows from what [`run`](rv_cli::run) promises of `feed`, `import`, `serve` and `make`, as contracts of functions that do nothing:
+//! What follows from what [`run`](rv_cli::run) promises of `feed`, `import`, `serve`, `follow` and `make`, as contracts of functions that do nothing:
 //! a check of the crate proves them.
 //!
 //! Who has called `run` holds the promise of the command. [`feed::feeds_are_runs`], [`import::imports_are_runs`] and
@@ -7,6 +7,7 @@
 #![tactic(auto)]
 
 pub mod feed;
+pub mod follow;
 pub mod import;
 pub mod listeners;
 pub mod make;
