@@ -72,16 +72,21 @@ def come_and_go(program, most):
         count *= 10
 
 
+def opening_file(program, path, count):
+    """Makes a file of so many entries: lists of 100 todos, whose keys come in no order."""
+    lists = count // 100
+    calls = [("createList", {"id": f"l{n}", "name": "Home", "ownerID": "ann"}) for n in range(lists)]
+    numbers = random.Random(2).sample(range(count), count - lists)
+    calls += [todo(number, f"l{number % lists}") for number in numbers]
+    ran(program, path, pushes(calls))
+
+
 def opening(program, most):
     """Prints what it takes to open a file of so many entries."""
     for count in (most // 10, most):
         with tempfile.TemporaryDirectory(dir="/dev/shm" if os.path.isdir("/dev/shm") else None) as folder:
             path = os.path.join(folder, "lists.db")
-            lists = count // 100
-            calls = [("createList", {"id": f"l{n}", "name": "Home", "ownerID": "ann"}) for n in range(lists)]
-            numbers = random.Random(2).sample(range(count), count - lists)
-            calls += [todo(number, f"l{number % lists}") for number in numbers]
-            ran(program, path, pushes(calls))
+            opening_file(program, path, count)
             size = os.path.getsize(path) // 2**20
             seconds, memory = ran(program, path, [])
             print(f"opening {count:8} entries of a file of {size} MB: {seconds:.2f} seconds, {memory} MB at most", flush=True)
