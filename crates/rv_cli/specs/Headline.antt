@@ -21,7 +21,7 @@ use Rattle.rv_keeper.specs.declared.loaded.Loaded.{Loaded}
 use Rattle.rv_keeper.specs.Stores.{TakesUp}
 use Rattle.rv_keeper.specs.Crashes.{LeavesMore}
 use Rattle.rv_state.specs.Ready.{NextFits}
-use Rattle.rv_standby.specs.Shipping.{book_lines}
+use Rattle.rv_standby.specs.Shipping.{BookIsTexts, book_lines}
 use Rattle.rv_store.specs.Opening.{MayOpen, IsDamaged, IsSoundBook}
 use Rattle.rv_store.specs.StoreCells.{IsKeptWith}
 use Rattle.rv_report.specs.Lists.{lists_text}
@@ -274,10 +274,10 @@ WritesReport Reports old new ending = ⊥
 abbrev pub WritesWhole : (Book → List ℕ → Type 0) → Book → OutputState → OutputState → Ending → Type 0
 WritesWhole Reports book = WritesReport (Reports book)
 
--- And of the lines of the book, which are written one after another: all of them; or a front of them, and a write failed; or a front of
--- them, and then that memory was refused.
+-- And of the lines of the book, which are written one after another: all of them, and each is a JSON text; or a front of them, and a write
+-- failed; or a front of them, and then that memory was refused.
 abbrev pub WritesLines : Book → OutputState → OutputState → Ending → Type 0
-WritesLines book old new Done = Appends old.written new.written (book_lines book) × (new.faults ≡ old.faults)
+WritesLines book old new Done = Appends old.written new.written (book_lines book) × (new.faults ≡ old.faults) × BookIsTexts book
 WritesLines book old new Write = AppendsFront old.written new.written (book_lines book) × Rose old.faults new.faults
 WritesLines book old new Memory = (mid : OutputState) × AppendsFront old.written mid.written (book_lines book) × (mid.faults ≡ old.faults) × WritesOnly mid new (status_text Memory)
 WritesLines book old new ending = ⊥

@@ -152,7 +152,7 @@ whole_ended true = refl
 whole_ended false = refl
 
 pub shipped_lines_are_read : (book : Book) (front back : List ℕ) → AreTheLinesOf book front back → ReadAsFirst (book_says book) front
-shipped_lines_are_read book front back (texts, more, is) =
+shipped_lines_are_read book front back ((texts, more), is) =
     let pages = page_cells book.page in
     let entries = entry_cells (book.page.at + 1) book.entries in
     let whole : List FollowLine = cond (book.page.at == 0) [] (lines.Page ∷ []) in

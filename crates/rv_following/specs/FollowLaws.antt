@@ -1,6 +1,5 @@
 -- What follows for a follower that is given the lines of a book: it is always at a front of that book, and nothing of the book is refused.
 use Rattle.std.specs.Prelude.{◌≡◌, ◌⊎◌, ℕ, ◌+◌, ◌^◌, ◌<◌, ◌≤◌, ◌==◌, List, [], ◌∷◌, ◌++◌, Option, Some, None, map, codes, if◌then◌else◌, Result, Ok, Err}
-use Rattle.std.specs.List.{AllByRecursion}
 use Rattle.serde_json.specs.Written.{compact_text}
 use Rattle.rv_lines.specs.Lines.{ended_lines_of}
 use Rattle.rv_book.specs.declared.entry.Entry.{Entry}
@@ -11,7 +10,7 @@ use Rattle.rv_opening.specs.PageCells.{page_cells}
 use Rattle.rv_store.specs.Opening.{IsSoundBook}
 use Rattle.rv_store.specs.StoreCells.{entry_cells}
 use Rattle.rv_answering.specs.declared.answer.Answer.{Answer}
-use Rattle.rv_standby.specs.Shipping.{book_lines, cell_data}
+use Rattle.rv_standby.specs.Shipping.{BookIsTexts, book_lines, cell_data}
 use Rattle.rv_standby.specs.declared.take_fault.TakeFault.{TakeFault}
 use Rattle.rv_standby.specs.declared.take_fault.TakeFault.TheVariants as faults
 use Rattle.rv_following.specs.declared.follow_line.FollowLine.{FollowLine}
@@ -68,7 +67,7 @@ NoLineIsRefused = (limit : ℕ) (book : Book) (state new : Following) (line : Fo
 
 -- These bytes begin the lines of the book, whose cells are texts.
 abbrev pub AreTheLinesOf : Book → List ℕ → List ℕ → Type 0
-AreTheLinesOf book front back = AllByRecursion AreTexts (page_cells book.page) × AllByRecursion AreTexts (entry_cells (book.page.at + 1) book.entries) × (book_lines book ≡ front ++ back)
+AreTheLinesOf book front back = BookIsTexts book × (book_lines book ≡ front ++ back)
 
 -- the lines that end in these bytes are read as the first of these
 abbrev pub ReadAsFirst : List FollowLine → List ℕ → Type 0

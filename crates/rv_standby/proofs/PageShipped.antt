@@ -1,15 +1,15 @@
 -- The lines of a page, part by part.
-use Rattle.std.proofs.Common.{◌≡◌, ℕ, ◌≤◌, ◌==◌, Bool, true, false, cond, List, [], ◌∷◌, ◌++◌, Result, Ok, Err, IsErrAnd, append_assoc, refl, sym, ap, ◌∙◌, subst, arith}
-use Rattle.std.specs.List.{flat_map}
+use Rattle.std.proofs.Common.{◌≡◌, ℕ, ◌≤◌, ◌==◌, Bool, false, cond, List, [], ◌∷◌, ◌++◌, Ok, Err, IsErrAnd, append_assoc, sym, ap, ◌∙◌, subst, arith}
+use Rattle.std.specs.List.{flat_map, AllByRecursion}
 use Rattle.std.proofs.lemmas.Bool.Decides.{nat_tests}
 use Rattle.std.proofs.lemmas.Grind.{flat_map-append}
 use Rattle.rv_base.specs.Outside.{OutputState, Writes}
 use Rattle.rv_base.specs.declared.fault.Fault.{Fault}
 use Rattle.rv_base.specs.declared.fault.Fault.TheVariants.{Failed}
 use Rattle.rv_book.specs.declared.page.Page.{Page}
-use Rattle.rv_keeper.specs.declared.cell.Cell.{Cell}
-use Rattle.rv_record.specs.CellTexts.{page_cell}
-use Rattle.rv_opening.specs.PageCells.{client_parts, group_parts, parts_of, row_parts}
+use Rattle.rv_opening.specs.Lists.{all-append}
+use Rattle.rv_record.specs.CellTexts.{AreTexts, page_cell}
+use Rattle.rv_opening.specs.PageCells.{client_parts, group_parts, page_cells, parts_of, row_parts}
 use Rattle.rv_standby.specs.Shipping.{Ships, cell_line, page_line, page_lines}
 use Rattle.rv_standby.proofs.Shipped.{Done, done, ships_cut}
 
@@ -69,3 +69,14 @@ module _ (page : Page) where
   -- where there is no page there are no lines of one
   pub no_lines : page.at ≡ 0 → page_lines page ≡ []
   no_lines none = ap (λ (n : ℕ). flat_map cell_line (cond (n == 0) [] (page_cell page.at ∷ parts_of page)) ++ cond (n == 0) [] page_line) none
+
+  -- the cells of a page are texts, part by part
+  pub texts_whole : 1 ≤ page.at → AreTexts (page_cell page.at) → AllByRecursion AreTexts (row_parts page.rows) → AllByRecursion AreTexts (client_parts page.clients) → AllByRecursion AreTexts (group_parts page.groups)
+      → AllByRecursion AreTexts (page_cells page)
+  texts_whole from at rows clients groups =
+      let more = all-append AreTexts (client_parts page.clients) (group_parts page.groups) clients groups in
+      subst (λ (b : Bool). AllByRecursion AreTexts (cond b [] (page_cell page.at ∷ parts_of page))) (sym (above_none page.at from)) (at, all-append AreTexts (row_parts page.rows) (client_parts page.clients ++ group_parts page.groups) rows more)
+
+  -- and where there is no page there are none
+  pub no_texts : page.at ≡ 0 → AllByRecursion AreTexts (page_cells page)
+  no_texts none = subst (λ (n : ℕ). AllByRecursion AreTexts (cond (n == 0) [] (page_cell page.at ∷ parts_of page))) (sym none) tt

@@ -1,5 +1,5 @@
 -- Cells that open to a page, and cells that do not.
-use Rattle.std.proofs.Common.{◌≡◌, ℕ, ◌^◌, ◌<◌, Bool, true, false, List, [], Option, Some, None, Result, Ok, Err, IsErrAnd, sym, ◌∙◌, subst}
+use Rattle.std.proofs.Common.{◌≡◌, ℕ, ◌^◌, ◌<◌, Bool, true, false, List, [], Result, Ok, Err, IsErrAnd, sym, ◌∙◌, subst}
 use Rattle.rv_base.specs.Sorted.{InOrder, is_in_order}
 use Rattle.rv_base.specs.RisingLaws.{order_is}
 use Rattle.rv_book.specs.declared.page.Page.{Page}
@@ -11,7 +11,6 @@ use Rattle.rv_opening.specs.declared.page_read.PageRead.{PageRead}
 use Rattle.rv_opening.specs.PageLaws.{kept_unbroken, none_kept_one, page_cells-order}
 use Rattle.rv_opening.specs.PageReads.{IsKeptPage, ReadsPage}
 use Rattle.rv_standby.specs.declared.take_fault.TakeFault.{TakeFault}
-use Rattle.rv_standby.specs.declared.take_fault.TakeFault.TheVariants as faults
 use Rattle.rv_standby.specs.Following.{OpensOrNot, fault_of}
 
 -- the cells of a page stand in order

@@ -1,21 +1,22 @@
 -- Lines that are written one after another.
-use Rattle.std.proofs.Common.{◌≡◌, ℕ, zero, suc, ◌+◌, ◌-◌, ◌<◌, ◌≤◌, map, codes, slice_get, length-append, Option, Some, None, List, [], ◌∷◌, ◌++◌, length, get_or, take, drop, Result, Ok, Err, IsErrAnd, refl, sym, ap, ◌∙◌, subst, arith}
-use Rattle.std.specs.List.{flat_map}
+use Rattle.std.proofs.Common.{◌≡◌, ℕ, zero, suc, ◌+◌, ◌-◌, ◌<◌, ◌≤◌, map, codes, slice_get, length-append, Some, None, List, [], ◌∷◌, ◌++◌, length, get_or, take, drop, Result, Ok, Err, IsErrAnd, refl, sym, ap, ◌∙◌, subst, arith}
+use Rattle.std.specs.List.{flat_map, AllByRecursion}
 use Rattle.std.proofs.KnownBytes.{Appends-nil}
 use Rattle.std.proofs.lemmas.Option.{same_Some}
 use Rattle.std.proofs.lemmas.Grind.{flat_map-append}
-use Rattle.std.proofs.lemmas.List.{append-nil, get_or-map, length-map, take-append-drop, take_more, take_all, drop_more}
-use Rattle.rv_base.specs.Causes.{Rose, rose_before}
+use Rattle.std.proofs.lemmas.List.{append-nil, get_or-map, length-map, take-append-drop, take_more, take_all}
+use Rattle.rv_base.specs.Causes.{rose_before}
 use Rattle.rv_base.specs.Outside.{OutputState}
 use Rattle.rv_base.specs.Writes.{front_longer, writes_after}
 use Rattle.rv_base.specs.declared.fault.Fault.{Fault}
-use Rattle.rv_base.specs.declared.fault.Fault.TheVariants.{Failed, Memory}
+use Rattle.rv_base.specs.declared.fault.Fault.TheVariants.{Memory}
 use Rattle.serde_json.specs.Written.{compact_text}
 use Rattle.rv_book.specs.declared.entry.Entry.{Entry}
 use Rattle.rv_book.specs.Book.{Book, entry_at, size}
 use Rattle.rv_book.specs.BookWords.{entry_at-index}
 use Rattle.rv_keeper.specs.declared.cell.Cell.{Cell}
-use Rattle.rv_record.specs.CellTexts.{entry_cell}
+use Rattle.rv_opening.specs.Lists.{all-append}
+use Rattle.rv_record.specs.CellTexts.{AreTexts, entry_cell}
 use Rattle.rv_store.specs.StoreCells.{entry_cells}
 use Rattle.rv_store.proofs.Entered.{length-entry_cells}
 use Rattle.rv_standby.specs.Shipping.{HasFailed, Ships, ShipsSteadily, cell_data, cell_line}
@@ -80,6 +81,17 @@ module _ (cells : List Cell) (begun : OutputState) where
       subst (λ (f : Fault). Ships begun now (Err f) (flat_map cell_line cells)) (sym fails)
       (subst (λ (t : List ℕ). Ships begun now (Err fault) t) (sym (text_whole index x below is))
       (ships_cut begun now fault (flat_map cell_line (take index cells) ++ cell_line x) (flat_map cell_line (drop (index + 1) cells)) (ships_then begun mid now (Err fault) (flat_map cell_line (take index cells)) (cell_line x) so one)))
+
+-- ---- Cells that are texts, one after another.
+
+-- the first so many, and one more
+pub one_text : (cells : List Cell) (index : ℕ) (x : Cell) → index < length cells → x ≡ get_or cells index x → AllByRecursion AreTexts (take index cells) → AreTexts x → AllByRecursion AreTexts (take (index + 1) cells)
+one_text cells index x below is so one =
+    subst (λ (ys : List Cell). AllByRecursion AreTexts ys) (sym (take_more cells index x below ∙ ap (λ (y : Cell). take index cells ++ y ∷ []) (sym is)))
+    (all-append AreTexts (take index cells) (x ∷ []) so (one, tt))
+
+pub all_texts : (cells : List Cell) (index : ℕ) → length cells ≤ index → AllByRecursion AreTexts (take index cells) → AllByRecursion AreTexts cells
+all_texts cells index le so = subst (λ (ys : List Cell). AllByRecursion AreTexts ys) (take_all index cells le) so
 
 -- memory was refused before a text was written
 pub none_fails : (s : OutputState) (text : List ℕ) (result : Done) → IsErrAnd result (λ d. d ≡ Memory) → 0 < length text → Ships s s result text

@@ -1,6 +1,6 @@
 -- What follows for a standby that is given the cells of a book: its book is always a front of that one, and what it answers shows what its user
 -- sees of that front.
-use Rattle.std.specs.Prelude.{◌≡◌, ℕ, ◌+◌, ◌^◌, ◌<◌, ◌≤◌, ◌⊎◌, List, [], ◌∷◌, Result, Ok, Err}
+use Rattle.std.specs.Prelude.{◌≡◌, ℕ, ◌+◌, ◌^◌, ◌<◌, ◌≤◌, ◌⊎◌, List, ◌∷◌, Result, Ok, Err}
 use Rattle.rv_book.specs.declared.entry.Entry.{Entry}
 use Rattle.rv_book.specs.Book.{Book, Extends, opening, size, with_entries, with_entry}
 use Rattle.rv_turns.specs.declared.outcome.Outcome.TheVariants.{Pulled}

@@ -1,6 +1,6 @@
 -- What `ship` writes of a book: the cells of its page, that the page is whole, and the cells of its entries, a line each.
 use Rattle.std.specs.Prelude.{◌≡◌, ℕ, ◌+◌, ◌≤◌, ◌==◌, List, [], ◌∷◌, ◌++◌, codes, if◌then◌else◌, Result, Ok, Err}
-use Rattle.std.specs.List.{flat_map}
+use Rattle.std.specs.List.{flat_map, AllByRecursion}
 use Rattle.serde_json.specs.Data.{Data, number, unsigned, string, object, member, no_members}
 use Rattle.serde_json.specs.Written.{compact_text}
 use Rattle.rv_base.specs.Causes.{Rose}
@@ -12,6 +12,7 @@ use Rattle.rv_book.specs.declared.page.Page.{Page}
 use Rattle.rv_book.specs.Book.{Book}
 use Rattle.rv_keeper.specs.declared.cell.Cell.{Cell}
 use Rattle.rv_record.specs.CallTexts.{array_of}
+use Rattle.rv_record.specs.CellTexts.{AreTexts}
 use Rattle.rv_opening.specs.PageCells.{page_cells}
 use Rattle.rv_store.specs.StoreCells.{entry_cells}
 
@@ -34,6 +35,10 @@ page_lines page = flat_map cell_line (page_cells page) ++ (if page.at == 0 then 
 -- the lines of a book: those of its page, and then a line for each entry
 abbrev pub book_lines : Book → List ℕ
 book_lines book = page_lines book.page ++ flat_map cell_line (entry_cells (book.page.at + 1) book.entries)
+
+-- the keys and bodies of a book's cells are UTF-8, so its lines are JSON texts
+abbrev pub BookIsTexts : Book → Type 0
+BookIsTexts book = AllByRecursion AreTexts (page_cells book.page) × AllByRecursion AreTexts (entry_cells (book.page.at + 1) book.entries)
 
 -- the count of faults rises where a write failed, and else stays
 abbrev pub HasFailed : ℕ → ℕ → Result (Unit {0}) Fault → Type 0

@@ -1,12 +1,12 @@
 // A book as lines: what a standby takes.
 ghost use Rattle.std.specs.Prelude.{◌≡◌, ◌+◌, ◌≤◌, IfOk};
-ghost use Rattle.std.specs.List.{flat_map};
+ghost use Rattle.std.specs.List.{flat_map, AllByRecursion};
 ghost use Rattle.std.specs.Str.{IsUtf8};
 ghost use Rattle.rv_rows.specs.Additions.{AddsValue};
-ghost use Rattle.rv_opening.specs.PageCells.{client_parts, group_parts, row_parts};
+ghost use Rattle.rv_opening.specs.PageCells.{client_parts, group_parts, page_cells, row_parts};
 ghost use Rattle.rv_record.specs.CellTexts.{AreTexts, entry_cell, page_cell, page_client_cell, page_group_cell, page_row_cell};
 ghost use Rattle.rv_store.specs.StoreCells.{entry_cells};
-ghost use Rattle.rv_standby.specs.Shipping.{Ships, ShipsSteadily, book_lines, cell_data, cell_line, page_lines};
+ghost use Rattle.rv_standby.specs.Shipping.{BookIsTexts, Ships, ShipsSteadily, book_lines, cell_data, cell_line, page_lines};
 
 use json::Writer;
 use rv_base::{Bytes, Fault, Id, Memory, Num, Sink, User, write_all};
@@ -75,6 +75,7 @@ fn ship_cell<O: Sink>(alloc: Global, out: &mut O, cell: &Cell) -> Result<(), Fau
 // Writes the line of the place of a page.
 fn ship_place<O: Sink>(alloc: Global, out: &mut O, place: u32) -> Result<(), Fault>
     ensures ships { Ships (O.state out.old) (O.state out.new) result (cell_line (page_cell place)) }
+    ensures texts { IfOk result (λ done. AreTexts (page_cell place)) }
     ensures steady { O.fails_no_more out.old → ShipsSteadily (O.fails_no_more out.new) (O.state out.old) (O.state out.new) result }
 {
     let cell = cell_of_page(alloc, place)?;
@@ -84,6 +85,7 @@ fn ship_place<O: Sink>(alloc: Global, out: &mut O, place: u32) -> Result<(), Fau
 // Writes the line of a row of a page.
 fn ship_row<O: Sink>(alloc: Global, out: &mut O, row: &Row, version: u32) -> Result<(), Fault>
     ensures ships { Ships (O.state out.old) (O.state out.new) result (cell_line (page_row_cell row.now version)) }
+    ensures texts { IfOk result (λ done. AreTexts (page_row_cell row.now version)) }
     ensures steady { O.fails_no_more out.old → ShipsSteadily (O.fails_no_more out.new) (O.state out.old) (O.state out.new) result }
 {
     let cell = cell_of_page_row(alloc, row, version)?;
@@ -99,6 +101,7 @@ fn ship_client<O: Sink>(
     last: Num,
 ) -> Result<(), Fault>
     ensures ships { Ships (O.state out.old) (O.state out.new) result (cell_line (page_client_cell client.now group.now last)) }
+    ensures texts { IfOk result (λ done. AreTexts (page_client_cell client.now group.now last)) }
     ensures steady { O.fails_no_more out.old → ShipsSteadily (O.fails_no_more out.new) (O.state out.old) (O.state out.new) result }
 {
     let cell = cell_of_page_client(alloc, client, group, last)?;
@@ -115,6 +118,7 @@ fn ship_group<O: Sink>(
     retired: bool,
 ) -> Result<(), Fault>
     ensures ships { Ships (O.state out.old) (O.state out.new) result (cell_line (page_group_cell group.now user.now order retired)) }
+    ensures texts { IfOk result (λ done. AreTexts (page_group_cell group.now user.now order retired)) }
     ensures steady { O.fails_no_more out.old → ShipsSteadily (O.fails_no_more out.new) (O.state out.old) (O.state out.new) result }
 {
     let cell = cell_of_page_group(alloc, group, user, order, retired)?;
@@ -124,6 +128,7 @@ fn ship_group<O: Sink>(
 // Writes the line of an entry at its place.
 fn ship_entry<O: Sink>(alloc: Global, out: &mut O, place: u32, entry: &Entry) -> Result<(), Fault>
     ensures ships { Ships (O.state out.old) (O.state out.new) result (cell_line (entry_cell place entry.now)) }
+    ensures texts { IfOk result (λ done. AreTexts (entry_cell place entry.now)) }
     ensures steady { O.fails_no_more out.old → ShipsSteadily (O.fails_no_more out.new) (O.state out.old) (O.state out.new) result }
 {
     let cell = cell_of_entry(alloc, place, entry)?;
@@ -133,6 +138,7 @@ fn ship_entry<O: Sink>(alloc: Global, out: &mut O, place: u32, entry: &Entry) ->
 // Writes the lines of a page's rows.
 fn ship_rows<O: Sink>(alloc: Global, out: &mut O, rows: &[(Row, u32)]) -> Result<(), Fault>
     ensures ships { Ships (O.state out.old) (O.state out.new) result (flat_map cell_line (row_parts rows.now)) }
+    ensures texts { IfOk result (λ done. AllByRecursion AreTexts (row_parts rows.now)) }
     ensures steady { O.fails_no_more out.old → ShipsSteadily (O.fails_no_more out.new) (O.state out.old) (O.state out.new) result }
 {
     for (row, version) in rows {
@@ -144,6 +150,7 @@ fn ship_rows<O: Sink>(alloc: Global, out: &mut O, rows: &[(Row, u32)]) -> Result
 // Writes the lines of a page's clients.
 fn ship_clients<O: Sink>(alloc: Global, out: &mut O, clients: &[(Id, Id, Num)]) -> Result<(), Fault>
     ensures ships { Ships (O.state out.old) (O.state out.new) result (flat_map cell_line (client_parts clients.now)) }
+    ensures texts { IfOk result (λ done. AllByRecursion AreTexts (client_parts clients.now)) }
     ensures steady { O.fails_no_more out.old → ShipsSteadily (O.fails_no_more out.new) (O.state out.old) (O.state out.new) result }
 {
     for (client, group, last) in clients {
@@ -159,6 +166,7 @@ fn ship_groups<O: Sink>(
     groups: &[(Id, User, Num, bool)],
 ) -> Result<(), Fault>
     ensures ships { Ships (O.state out.old) (O.state out.new) result (flat_map cell_line (group_parts groups.now)) }
+    ensures texts { IfOk result (λ done. AllByRecursion AreTexts (group_parts groups.now)) }
     ensures steady { O.fails_no_more out.old → ShipsSteadily (O.fails_no_more out.new) (O.state out.old) (O.state out.new) result }
 {
     for (group, user, order, retired) in groups {
@@ -171,6 +179,7 @@ fn ship_groups<O: Sink>(
 fn ship_page<O: Sink>(alloc: Global, out: &mut O, page: &Page) -> Result<(), Fault>
     requires { 1 ≤ page.now.at }
     ensures ships { Ships (O.state out.old) (O.state out.new) result (page_lines page.now) }
+    ensures texts { IfOk result (λ done. AllByRecursion AreTexts (page_cells page.now)) }
     ensures steady { O.fails_no_more out.old → ShipsSteadily (O.fails_no_more out.new) (O.state out.old) (O.state out.new) result }
 {
     ship_place(alloc, out, page.at)?;
@@ -184,6 +193,7 @@ fn ship_page<O: Sink>(alloc: Global, out: &mut O, page: &Page) -> Result<(), Fau
 // Writes the lines of a book's entries.
 fn ship_entries<O: Sink>(alloc: Global, out: &mut O, book: &Book) -> Result<(), Fault>
     ensures ships { Ships (O.state out.old) (O.state out.new) result (flat_map cell_line (entry_cells (book.now.book.page.at + 1) book.now.book.entries)) }
+    ensures texts { IfOk result (λ done. AllByRecursion AreTexts (entry_cells (book.now.book.page.at + 1) book.now.book.entries)) }
     ensures steady { O.fails_no_more out.old → ShipsSteadily (O.fails_no_more out.new) (O.state out.old) (O.state out.new) result }
 {
     for before in book.opened_at()..book.len() {
@@ -195,7 +205,8 @@ fn ship_entries<O: Sink>(alloc: Global, out: &mut O, book: &Book) -> Result<(), 
 }
 
 /// Writes a book as lines, each as it was made: `{"cell":[SHELF,KEY,BODY]}` for each cell of the page that it opens with, then
-/// `{"page":true}` where there is a page, and then the line of the cell of each entry. Memory does not grow with the number of lines.
+/// `{"page":true}` where there is a page, and then the line of the cell of each entry. Each is a JSON text in UTF-8. Memory does not grow with
+/// the number of lines.
 ///
 /// # Errors
 ///
@@ -203,6 +214,7 @@ fn ship_entries<O: Sink>(alloc: Global, out: &mut O, book: &Book) -> Result<(), 
 /// written, which lacks some bytes.
 pub fn ship<O: Sink>(alloc: Global, out: &mut O, book: &Book) -> Result<(), Fault>
     ensures ships { Ships (O.state out.old) (O.state out.new) result (book_lines book.now.book) }
+    ensures texts { IfOk result (λ done. BookIsTexts book.now.book) }
     ensures steady { O.fails_no_more out.old → ShipsSteadily (O.fails_no_more out.new) (O.state out.old) (O.state out.new) result }
 {
     if let Some(page) = book.page() {

@@ -1,11 +1,14 @@
 use Rattle.std.proofs.Common.{◌≡◌, ◌+◌, ◌++◌, List, [], ℕ, refl, sym, ap, subst}
-use Rattle.std.specs.List.{flat_map}
+use Rattle.std.specs.List.{flat_map, AllByRecursion}
+use Rattle.std.proofs.lemmas.Result.{IfOk-weaker}
 use Rattle.rv_book.specs.declared.page.Page.{Page}
 use Rattle.rv_book.specs.Book.{Book}
+use Rattle.rv_opening.specs.PageCells.{page_cells}
+use Rattle.rv_record.specs.CellTexts.{AreTexts}
 use Rattle.rv_store.specs.StoreCells.{entry_cells}
-use Rattle.rv_standby.specs.Shipping.{Ships, cell_line, page_lines}
+use Rattle.rv_standby.specs.Shipping.{BookIsTexts, Ships, cell_line, page_lines}
 use Rattle.rv_standby.proofs.Shipped.{done, ships_nothing, ships_then}
-use Rattle.rv_standby.proofs.PageShipped.{no_lines, part_fails}
+use Rattle.rv_standby.proofs.PageShipped.{no_lines, no_texts, part_fails}
 use Rattle.rv_standby.proofs.shipping.ship.Goals.{in-Some+in_ok-ship_page, in_default}
 use Rattle.rv_standby.proofs.shipping.ship.Goals as goal
 
@@ -31,3 +34,12 @@ returns-clause-ships g c =
           let here : Ships (state c.args.out.now) (state c.match-page.out) done (page_lines book.page) = subst (λ o. Ships (state c.args.out.now) (state o) done (page_lines book.page)) (sym w.out-is) page in
           ships_then _ _ _ _ (page_lines book.page) lines here c.ship_entries.ensures.ships)
     ]
+
+pub returns-clause-texts : goal.returns-clause-texts
+returns-clause-texts g c =
+    let book : Book = c.args.book.now.book in
+    let page : AllByRecursion AreTexts (page_cells book.page) = elim c.match-page.branch [
+      | in-Some+in_ok-ship_page w ↦ subst (λ (p : Page). AllByRecursion AreTexts (page_cells p)) w.in-Some.ensures.page w.in_ok-ship_page.ensures.texts
+      | in_default w ↦ no_texts book.page (w.in_default.ensures.none.0 refl)
+    ] in
+    IfOk-weaker _ _ (λ done. BookIsTexts book) (λ done entries. (page, entries)) c.ship_entries.ensures.texts

@@ -1,7 +1,7 @@
 use Rattle.std.proofs.Common.{subst, sym, List, ℕ}
 use Rattle.rv_standby.specs.Shipping.{Ships}
-use Rattle.rv_standby.proofs.Shipped.{Done, done, ships_then}
-use Rattle.rv_standby.proofs.PageShipped.{from_clients, from_groups, from_place, from_rows, last_fails, part_fails, wrote, wrote_some}
+use Rattle.rv_standby.proofs.Shipped.{done, ships_then}
+use Rattle.rv_standby.proofs.PageShipped.{from_clients, from_groups, from_place, from_rows, last_fails, part_fails, texts_whole, wrote, wrote_some}
 use Rattle.rv_standby.proofs.shipping.ship_page.Goals as goal
 
 pub returns-in_err-ship_place-clause-ships : goal.returns-in_err-ship_place-clause-ships
@@ -40,3 +40,10 @@ returns-clause-ships g c =
     let groups = ships_then _ _ _ done _ _ clients (rw c.as_slice-3.ensures at c.in_ok-ship_groups.ensures.ships) in
     let so = ships_then _ _ _ done _ _ groups (wrote _ _ _ _ c.in_ok-write_all.ensures.writes) in
     subst (λ (t : List ℕ). Ships (g.O.Sink.state c.args.out.now) (g.O.Sink.state c.write_all.new.out) done t) (sym (from_groups c.args.page.now c.requires)) so
+
+pub returns-clause-texts : goal.returns-clause-texts
+returns-clause-texts g c =
+    let rows = rw c.as_slice.ensures at c.in_ok-ship_rows.ensures.texts in
+    let clients = rw c.as_slice-2.ensures at c.in_ok-ship_clients.ensures.texts in
+    let groups = rw c.as_slice-3.ensures at c.in_ok-ship_groups.ensures.texts in
+    texts_whole c.args.page.now c.requires c.in_ok-ship_place.ensures.texts rows clients groups
