@@ -40,6 +40,7 @@ UNPLAYED = {
     (OPERATING, "systemctl reload haproxy"): NO_HAPROXY,
     (OPERATING, "for name in north south; do curl -sk --resolve $name.example:443:127.0.0.1 -H 'Authorization: k-ann' "
      "-d @examples/push.json https://$name.example/push; echo; done"): "TLS, by HAProxy",
+    (OPERATING, "systemctl enable --now rv-standby@lists rv-ship@lists.timer"): "a timer; what the two units run is played by hand before",
 }
 # Blocks that are no commands, and that no command before them writes.
 TEXTS = {

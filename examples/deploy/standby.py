@@ -2,10 +2,11 @@
 """Answers pulls over HTTP by `rv follow`: examples/deploy/standby.py RV LINES ACCOUNTS PORT FOLLOW_PORT
 
 RV is the program, LINES the file of the lines that `rv ship` wrote of the leader's book, ACCOUNTS the leader's accounts file. It listens
-at PORT of 127.0.0.1, and the two followers that it has at most listen at FOLLOW_PORT and the next port. LINES is looked at each second:
-where it was replaced by a longer one that begins as before, the lines that are new are told to the follower; else, as after a closing of
-the leader's book, another follower is told all, and takes the place of the first. The follower is asked something every ten seconds,
-since one that hears nothing for thirty ends; where it has ended, so does this program, to be started anew.
+at PORT of 127.0.0.1, and answers once the lines were told; the two followers that it has at most listen at FOLLOW_PORT and the next
+port. LINES is looked at each second: where it was replaced by a longer one that begins as before, the lines that are new are told to the
+follower; else, as after a closing of the leader's book, another follower is told all, and takes the place of the first. The follower is
+asked something every ten seconds, since one that hears nothing for thirty ends; where it has ended, so does this program, to be started
+anew.
 """
 import hashlib
 import http.server
@@ -155,14 +156,25 @@ class Handler(http.server.BaseHTTPRequestHandler):
         pass
 
 
+class Listener(http.server.ThreadingHTTPServer):
+    def handle_error(self, request, address):
+        # A client that has gone is no trouble.
+        if not isinstance(sys.exception(), ConnectionError):
+            super().handle_error(request, address)
+
+
 def main():
     program, lines, accounts, port, follow_port = sys.argv[1:]
     with open(accounts, "rb") as file:
         Handler.users = {account["key"]: account["user"] for account in tomllib.load(file).get("account", [])}
-    Handler.standby = Standby(program, lines, int(follow_port))
+    server = Listener(("127.0.0.1", int(port)), Handler)
+    try:
+        Handler.standby = Standby(program, lines, int(follow_port))
+    except OSError as wrong:
+        sys.exit(f"standby: {wrong}")
     threading.Thread(target=Handler.standby.keep, daemon=True).start()
     print(f"standby: {Handler.standby.follower.size} bytes of lines were told", file=sys.stderr, flush=True)
-    http.server.ThreadingHTTPServer(("127.0.0.1", int(port)), Handler).serve_forever()
+    server.serve_forever()
 
 
 if __name__ == "__main__":
