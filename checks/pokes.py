@@ -2,8 +2,8 @@
 """Checks the pokes of `rv serve` as WebSocket clients see them: checks/pokes.py PROGRAM [--slow]
 
 PROGRAM is the program `rv` as it was built. Each part starts it anew over a store in memory, with 4 workers and 4 poke jobs where it
-says nothing else, and prints a line with what was seen. With --slow the clients that say nothing have their part too, which takes some
-two minutes. Ends with status 1 at the first thing that is wrong.
+says nothing else, and prints a line with what was seen. With --slow the clients that say nothing have their part too, and those that have
+left where nothing happens, which takes some three minutes. Ends with status 1 at the first thing that is wrong.
 """
 import random
 import socket
@@ -152,6 +152,27 @@ def check_leaving(program):
     server.ends(12)
     print("leaving: after a close, an end of the stream and a reset one push freed the one job, for the first client that still waited; "
           "after a ping and an end, two did")
+
+
+def check_quiet(program):
+    """Clients of a user whom nothing concerns come and go: whatever anybody does frees the jobs of those that have left."""
+    server = Server(program, connections=10)
+    acts = 0
+    for leave in (*LEAVES, *LEAVES):
+        gone = [server.link("cat") for _ in range(4)]
+        for link in gone:
+            link.quiet("a link of a user whom nothing concerns", 0.02)
+            leave(link)
+        waiting = Link(server.poke_port)
+        waiting.waits("a client where those that left hold all jobs")
+        server.push("ann", "paint", None)
+        acts += 1
+        waiting.greeted(SOON).send(TEXT, b"k-ann").poked(f"the client that waited, after {leave.__name__}")
+        reset(waiting.stream)
+        server.push("bob", "paint", None)
+        acts += 1
+    server.ends(acts)
+    print(f"quiet: {4 * len(LEAVES) * 2} clients of a user whom nothing concerns had left, and one act of somebody else freed their jobs")
 
 
 def check_sixteen(program):
@@ -496,13 +517,33 @@ def check_silence(program):
     print(f"silence: two clients lost their links after {took:.1f} s; one more held up the program's end for {time.monotonic() - start:.1f} s")
 
 
+def check_minute(program):
+    """Where nobody does anything a client that has left is found within a minute."""
+    server = Server(program, pokes=len(LEAVES), connections=2)
+    gone = [server.link("cat") for _ in LEAVES]
+    for leave, link in zip(LEAVES, gone):
+        link.quiet("a link of a user whom nothing concerns")
+        leave(link)
+    start = time.monotonic()
+    waiting = [Link(server.poke_port) for _ in LEAVES]
+    for link in waiting:
+        link.waits("a client where those that left hold all jobs")
+    for link in waiting:
+        link.greeted(60 + SOON)
+    took = time.monotonic() - start
+    for link in waiting:
+        link.send(TEXT, b"k-bob").quiet("a link in the place of one that left")
+    server.ends(0)
+    print(f"minute: {len(LEAVES)} clients that had left were found after {took:.1f} s in which nothing happened")
+
+
 def main():
     words = [word for word in sys.argv[1:] if word != "--slow"]
     if len(words) != 1:
         sys.exit("usage: checks/pokes.py PROGRAM [--slow]")
-    checks = [check_sharing, check_extents, check_denied, check_idle, check_aborts, check_leaving, check_sixteen, check_crossing, check_order,
-              check_end, check_limit, check_many]
-    for check in checks + [check_silence] * ("--slow" in sys.argv):
+    checks = [check_sharing, check_extents, check_denied, check_idle, check_aborts, check_leaving, check_quiet, check_sixteen, check_crossing,
+              check_order, check_end, check_limit, check_many]
+    for check in checks + [check_silence, check_minute] * ("--slow" in sys.argv):
         check(words[0])
         sys.stdout.flush()
 

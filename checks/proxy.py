@@ -3,8 +3,9 @@
 
 PROGRAM is the program `rv` as it was built. It serves with 4 workers behind HAProxy, over TLS. IDLE clients (500) keep their connections
 and say nothing: one more is answered at once. Clients that push at once are all answered, also while the server is killed and started
-again, and so is a body that is too large; 16 links for pokes are served, and one more is turned away. Prints a line for each, and ends with status 1 at the first thing that
-is wrong. Needs Debian's haproxy and openssl; where one is not installed it says so, and checks nothing.
+again, and so is a body that is too large; 16 links for pokes are served, one more is turned away, and once their windows are closed and
+somebody else has pushed another is served. Prints a line for each, and ends with status 1 at the first thing that is wrong. Needs Debian's
+haproxy and openssl; where one is not installed it says so, and checks nothing.
 """
 import contextlib
 import http.client
@@ -166,7 +167,21 @@ def check_pokes(site):
         start = time.monotonic()
         stream = ending.enter_context(handshake(site))
         same("the answer to one more handshake", b"HTTP/1.1 503", stream.recv(4096)[:12])
-    print(f"pokes: {POKES} links were served, and one more was turned away with 503 after {time.monotonic() - start:.1f} s")
+        took = time.monotonic() - start
+    with contextlib.ExitStack() as ending:
+        for _ in range(POKES):
+            stream = ending.enter_context(handshake(site))
+            same("a handshake's answer", b"HTTP/1.1 101", stream.recv(4096)[:12])
+            key = KEYS["bob"].encode()
+            stream.sendall(bytes([0x81, 0x80 | len(key)]) + bytes(4) + key)
+        time.sleep(0.5)
+    push = {"pushVersion": 1, "clientGroupID": "other", "mutations": [{"clientID": "other", "id": 1, "name": "paint", "args": None}]}
+    same("a push of somebody else", 200, asked(site.connection(), "push", "ann", push)[0])
+    start = time.monotonic()
+    with handshake(site) as stream:
+        same("the answer to a handshake after the windows were closed", b"HTTP/1.1 101", stream.recv(4096)[:12])
+    print(f"pokes: {POKES} links were served, and one more was turned away with 503 after {took:.1f} s; after {POKES} of a user whom nothing "
+          f"concerns were closed, and a push of somebody else, another was served after {1000 * (time.monotonic() - start):.0f} ms")
 
 
 def check_log(site):

@@ -61,4 +61,4 @@ WritesStep contents step old new = ⊥
 
 -- a link over a socket tells neither what is to come nor what was sent
 abbrev pub link_state : {S : Type 0} → SocketLink S → LinkState
-link_state link = record { coming = None; sent = None; faults = link.faults }
+link_state link = record { coming = None; sent = None; found = link.found; faults = link.faults }

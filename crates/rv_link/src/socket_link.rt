@@ -16,7 +16,8 @@ use std::io::{Read, Write};
 /// binary message, a ping, a pong and a close are [`First::Other`], so a client that pings before it sends its key is denied. Any
 /// other breach of the protocol is [`Fault::Failed`], and so are a handshake that fails, the end of the stream, a read that
 /// fails or would block, and a second call. A head that asks for no upgrade is not answered. From then on nothing is read: a ping has
-/// no answer, and that the client has gone is told where a poke can't be sent.
+/// no answer, and that the client has gone is told where a poke can't be sent. [`find`](PokeLink::find) never fails: of a stream that may
+/// be any there is no look without waiting.
 ///
 /// A poke or a close that can't be sent for want of memory is a fault, and so is one that was written and could not be flushed. A close
 /// goes out after the pong that a first ping asks for; where the client has closed the link first, the answer to its close goes
@@ -25,6 +26,8 @@ use std::io::{Read, Write};
 #[derive(Drop)]
 pub struct SocketLink<S> {
     line: Line<S>,
+    /// How often its client was looked for. It stands still at 2^64 - 1.
+    pub found: u64,
     /// How often a call has failed. It stands still at 2^64 - 1.
     pub faults: u64,
 }
@@ -32,10 +35,11 @@ pub struct SocketLink<S> {
 impl<S> SocketLink<S> {
     /// A link over a stream whose handshake is still to come.
     pub fn new(stream: S) -> SocketLink<S>
-        ensures { result ≡ record { line = Fresh stream; faults = 0 } }
+        ensures { result ≡ record { line = Fresh stream; found = 0; faults = 0 } }
     {
         SocketLink {
             line: Line::Fresh(stream),
+            found: 0,
             faults: 0,
         }
     }
@@ -44,7 +48,7 @@ impl<S> SocketLink<S> {
     fn told(&mut self, told: Result<(), Failed>) -> Result<(), Failed>
         ensures cause { HasCause self.old.faults self.new.faults result }
         ensures same { result ≡ told }
-        ensures line { self.new.line ≡ self.old.line }
+        ensures others { self.new ≡ record self.old { faults = self.new.faults } }
     {
         if told.is_err() {
             self.faults = self.faults.saturating_add(1);
@@ -54,9 +58,9 @@ impl<S> SocketLink<S> {
 }
 
 impl<S: Read + Write + Drop> PokeLink for SocketLink<S> {
-    ghost use Rattle.std.specs.Prelude.{[], Some, codes, IfOk, IsErrOf, OnOk};
+    ghost use Rattle.std.specs.Prelude.{[], Some, codes, false, is_err, IfOk, IsErrOf, OnOk};
     ghost use Rattle.rv_poke.specs.declared.sent.Sent.TheVariants.{Close, Poke};
-    ghost use Rattle.rv_poke.specs.Links.{Says, Takes};
+    ghost use Rattle.rv_poke.specs.Links.{Finds, Says, Takes};
     ghost use Rattle.tungstenite.specs.Connection.{close_step, write_step};
     ghost use Rattle.tungstenite.specs.Content.{text};
     ghost use Rattle.websocket.specs.CloseCode.{close_code_of};
@@ -93,6 +97,17 @@ impl<S: Read + Write + Drop> PokeLink for SocketLink<S> {
     {
         let sent = self.line.send_poke();
         self.told(sent)
+    }
+
+    fn find(&mut self) -> Result<(), Failed>
+        ensures finds { Finds (link_state self.old) (link_state self.new) result }
+
+        // The client counts as there, and nothing is written or read.
+        ensures there { is_err result ≡ false }
+        ensures line { self.new.line ≡ self.old.line }
+    {
+        self.found = self.found.saturating_add(1);
+        Ok(())
     }
 
     fn close(&mut self, code: u16) -> Result<(), Failed>

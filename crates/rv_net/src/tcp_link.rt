@@ -1,4 +1,5 @@
 // A link over TCP.
+ghost use Rattle.std.specs.Prelude.{◌≡◌};
 ghost use Rattle.rv_base.specs.Causes.{HasCause};
 
 use rv_base::{Failed, Fault};
@@ -20,13 +21,15 @@ const CLOSE: u8 = 0x88;
 
 /// A link over TCP, which speaks WebSocket as [`SocketLink`] says. Neither what comes nor what is sent is told.
 ///
-/// Before it sends a poke it looks, without waiting, whether the client has left: it has where its stream has ended, or the next that it
-/// sent is a close. Then the poke fails. Nothing else that the client sends is looked at.
+/// Before it sends a poke, and where it is asked to, it looks, without waiting, whether the client has left: it has where its stream has
+/// ended, or the next that it sent is a close. Then the call fails. Nothing else that the client sends is looked at.
 #[derive(Drop)]
 pub struct TcpLink {
     // The same stream as that of the link.
     stream: TcpStream,
     link: SocketLink<TcpStream>,
+    /// How often its client was looked for and was there. It stands still at 2^64 - 1.
+    pub found: u64,
     /// How often a call has failed. It stands still at 2^64 - 1.
     pub faults: u64,
 }
@@ -54,13 +57,16 @@ impl TcpLink {
         Ok(TcpLink {
             stream,
             link,
+            found: 0,
             faults: 0,
         })
     }
 
     // Counts a fault where a call has failed.
     fn told(&mut self, told: Result<(), Failed>) -> Result<(), Failed>
-        ensures { HasCause self.old.faults self.new.faults result }
+        ensures cause { HasCause self.old.faults self.new.faults result }
+        ensures same { result ≡ told }
+        ensures found { self.new.found ≡ self.old.found }
     {
         if told.is_err() {
             self.faults = self.faults.saturating_add(1);
@@ -71,11 +77,11 @@ impl TcpLink {
 
 impl PokeLink for TcpLink {
     ghost use Rattle.std.specs.Prelude.{None};
-    ghost use Rattle.rv_poke.specs.Links.{Says, Takes};
+    ghost use Rattle.rv_poke.specs.Links.{Finds, Says, Takes};
     ghost use Rattle.rv_poke.specs.declared.sent.Sent.TheVariants.{Close, Poke};
 
     // Nothing is told of a real client.
-    ghost state = { λ s. record { coming = None; sent = None; faults = s.faults } };
+    ghost state = { λ s. record { coming = None; sent = None; found = s.found; faults = s.faults } };
 
     fn first(&mut self, alloc: Global) -> Result<First, Fault> {
         match self.link.first(alloc) {
@@ -94,6 +100,16 @@ impl PokeLink for TcpLink {
             _ => Err(Failed),
         };
         self.told(sent)
+    }
+
+    fn find(&mut self) -> Result<(), Failed> {
+        match has_left(&self.stream) {
+            Ok(false) => {
+                self.found = self.found.saturating_add(1);
+                Ok(())
+            }
+            _ => self.told(Err(Failed)),
+        }
     }
 
     fn close(&mut self, code: u16) -> Result<(), Failed> {

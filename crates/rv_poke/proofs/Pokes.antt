@@ -1,10 +1,17 @@
 -- What one mark more adds, and what one poke more.
 use Rattle.std.proofs.Common.{◌≡◌, ℕ, zero, suc, ◌+◌, ◌≤◌, max, nat_lt, replicate, List, [], ◌∷◌, ◌++◌, Option, Some, None, true, false, cond, refl, sym, ap, ◌∙◌, arith, zero-add, append_assoc, append-nil}
 use Rattle.std.proofs.lemmas.Bool.{lt-ltb, le-ltb, ltb-true, ltb-false}
+use Rattle.rv_base.specs.Outside.{counted}
 use Rattle.rv_poke.specs.declared.sent.Sent.{Sent}
 use Rattle.rv_poke.specs.declared.sent.Sent.TheVariants.{Poke}
 use Rattle.rv_poke.specs.Links.{Sends, IsSilent}
-use Rattle.rv_poke.specs.Sessions.{told_after, poke_at, pokes_of}
+use Rattle.rv_poke.specs.Bells.{counted_by}
+use Rattle.rv_poke.specs.Sessions.{poke_at, pokes_of, quiet_at, quiet_of}
+
+-- The mark that was told last, after looks with these marks: a look tells its mark where that is above what was told.
+abbrev pub told_after : ℕ → List ℕ → ℕ
+told_after told [] = told
+told_after told (mark ∷ marks) = told_after (max told mark) marks
 
 -- what is told after one mark more
 pub told_more : (told : ℕ) (marks : List ℕ) (mark : ℕ) → told_after told (marks ++ mark ∷ []) ≡ max (told_after told marks) mark
@@ -15,6 +22,20 @@ told_more told (m ∷ ms) mark = told_more (max told m) ms mark
 pub pokes_more : (told : ℕ) (marks : List ℕ) (mark : ℕ) → pokes_of told (marks ++ mark ∷ []) ≡ pokes_of told marks + poke_at (told_after told marks) mark
 pokes_more told [] mark = omega arith
 pokes_more told (m ∷ ms) mark = let more = pokes_more (max told m) ms mark in omega arith
+
+-- the looks without a poke, of one mark more
+pub quiet_more : (told : ℕ) (marks : List ℕ) (mark : ℕ) → quiet_of told (marks ++ mark ∷ []) ≡ quiet_of told marks + quiet_at (told_after told marks) mark
+quiet_more told [] mark = omega arith
+quiet_more told (m ∷ ms) mark = let more = quiet_more (max told m) ms mark in omega arith
+
+-- a count of some more, and then of others
+counted_both : (n k old : ℕ) → counted_by k (counted_by n old) ≡ counted_by (n + k) old
+counted_both n zero old = let none : n ≡ n + zero = omega arith in ap (λ m. counted_by m old) none
+counted_both n (suc k) old = let one : suc (n + k) ≡ n + suc k = omega arith in ap counted (counted_both n k old) ∙ ap (λ m. counted_by m old) one
+
+-- the client was found some times more
+pub found_more : (n k old mid new : ℕ) → mid ≡ counted_by n old → new ≡ counted_by k mid → new ≡ counted_by (n + k) old
+found_more n k old mid new first more = more ∙ ap (counted_by k) first ∙ counted_both n k old
 
 -- at most one poke a look
 pub at_most_one : (told mark : ℕ) → poke_at told mark ≤ 1

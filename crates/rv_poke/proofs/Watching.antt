@@ -6,9 +6,9 @@ use Rattle.rv_poke.specs.declared.sent.Sent.TheVariants.{Poke}
 use Rattle.rv_poke.specs.declared.waited.Waited.TheVariants.{Over, Rung}
 use Rattle.rv_poke.specs.Bells.{BellState, HasWaited, counted_by}
 use Rattle.rv_poke.specs.Links.{LinkState, Sends}
-use Rattle.rv_poke.specs.Looking.{Told, Unsent}
-use Rattle.rv_poke.specs.Sessions.{told_after, poke_at, pokes_of, SessionState, session_state, Looks, Watched, Watches}
-use Rattle.rv_poke.proofs.Pokes.{told_more, pokes_more, at_most_one, poke_at-max, sends_more, sends_silent, sends_none}
+use Rattle.rv_poke.specs.Looking.{Told, Lost}
+use Rattle.rv_poke.specs.Sessions.{poke_at, pokes_of, quiet_at, quiet_of, SessionState, session_state, Looks, Watched, Watches}
+use Rattle.rv_poke.proofs.Pokes.{told_after, told_more, pokes_more, quiet_more, found_more, at_most_one, poke_at-max, sends_more, sends_silent, sends_none}
 
 -- one look more is one poke more at the most
 pub one_more : (before : List ℕ) (mark pokes : ℕ) → pokes_of 0 before < 10000 → pokes ≡ pokes_of 0 (before ++ mark ∷ []) → pokes ≤ 10000
@@ -27,7 +27,7 @@ module _ {S : Type 0} (marks : S → List ℕ → ℕ → S → Type 0) where
   pub record Going (user : List ℕ) (old new : SessionState S) (told pokes waits : ℕ) : Type 0 where
     pub before : List ℕ
     pub mark : ℕ
-    pub watched : Watched marks user old new before mark pokes
+    pub watched : Watched marks user old new before mark (before ++ mark ∷ [])
     pub is_told : told ≡ told_after 0 (before ++ mark ∷ [])
     pub are_pokes : pokes ≡ pokes_of 0 (before ++ mark ∷ [])
     pub has_waited : length before ≡ waits
@@ -47,7 +47,8 @@ module _ {S : Type 0} (marks : S → List ℕ → ℕ → S → Type 0) where
           rung = refl;
           few = omega arith;
           waits = omega arith;
-          said = subst (λ n. Sends link.sent (replicate n Poke) link'.sent) (sym same) look.said;
+          said = let all : poke_at 0 look.mark ≡ pokes_of 0 (look.mark ∷ []) = omega arith in subst (λ n. Sends link.sent (replicate n Poke) link'.sent) all look.said;
+          found = let all : quiet_at 0 look.mark ≡ quiet_of 0 (look.mark ∷ []) = omega arith in look.found ∙ ap (λ n. counted_by n link.found) all;
         };
         is_told = look.next;
         are_pokes = same ∙ omega arith;
@@ -57,14 +58,13 @@ module _ {S : Type 0} (marks : S → List ℕ → ℕ → S → Type 0) where
         still = look.still;
       }
 
-  -- no poke could be sent at the first look
-  pub fails_at_once : (user : List ℕ) (teller teller' : S) (link link' : LinkState) (bell : BellState) → Unsent marks user 0 teller teller' link link'
+  -- the first look didn't end well
+  pub fails_at_once : (user : List ℕ) (teller teller' : S) (link link' : LinkState) (bell : BellState) → Lost marks user 0 teller teller' link link'
       → Watches marks user (session_state teller link bell) (session_state teller' link' bell) LinkFault
   fails_at_once user teller teller' link link' bell look = (
     [],
     look.mark,
-    look.above,
-    record { looks = (teller', look.look, refl); rung = refl; few = omega arith; waits = omega arith; said = sends_none link.sent link'.sent look.idle.silent },
+    record { looks = (teller', look.look, refl); rung = refl; few = omega arith; waits = omega arith; said = sends_none link.sent link'.sent look.idle.silent; found = look.idle.unfound },
     refl,
   )
 
@@ -88,18 +88,20 @@ module _ {S : Type 0} (marks : S → List ℕ → ℕ → S → Type 0) where
           going.before,
           going.mark,
           going.are_pokes,
-          record { looks = w.looks; rung = waited.0 ∙ w.rung; few = w.few; waits = w.waits; said = w.said },
+          record { looks = w.looks; rung = waited.0 ∙ w.rung; few = w.few; waits = w.waits; said = w.said; found = w.found },
           inl (waited.1 ∙ ap counted going.not_over, few_pokes others, omega (arith, going.has_waited)),
         )
 
     module _ (teller : S) (link : LinkState) (bell : BellState) (others : pokes ≡ 10000 → ⊥) (below : waits < 1000000) (waited : HasWaited mid.bell bell Rung) where
-      after_ring : (mark : ℕ) (sent : ℕ) → marks mid.teller user mark teller → Sends old.link.sent (replicate sent Poke) link.sent → Watched marks user old (session_state teller link bell) all mark sent
-      after_ring mark sent look said = record {
+      after_ring : (mark : ℕ) (well : List ℕ) → marks mid.teller user mark teller → Sends old.link.sent (replicate (pokes_of 0 well) Poke) link.sent → link.found ≡ counted_by (quiet_of 0 well) old.link.found
+          → Watched marks user old (session_state teller link bell) all mark well
+      after_ring mark well look said found = record {
         looks = looks_more user old.teller mid.teller teller all mark going.watched.looks look;
         rung = rung_more going.before going.mark old.bell.rungs mid.bell.rungs bell.rungs going.watched.rung waited.0;
         few = subst (λ n. n < 10000) going.are_pokes (few_pokes others);
         waits = let len = length-append going.before (going.mark ∷ []) in let is = going.has_waited in omega arith;
         said = said;
+        found = found;
       }
 
       -- one look more
@@ -108,8 +110,11 @@ module _ {S : Type 0} (marks : S → List ℕ → ℕ → S → Type 0) where
           let same : more ≡ poke_at told look.mark = is ∙ ap (poke_at told) look.next ∙ poke_at-max told look.mark in record {
             before = all;
             mark = look.mark;
-            watched = after_ring look.mark (pokes + more) look.look
-                (subst (λ n. Sends old.link.sent (replicate (pokes + n) Poke) link.sent) (sym same) (sends_more old.link.sent mid.link.sent link.sent pokes (poke_at told look.mark) going.watched.said look.said));
+            watched = after_ring look.mark (all ++ look.mark ∷ []) look.look
+                (subst (λ n. Sends old.link.sent (replicate n Poke) link.sent) (ap (λ t. pokes_of 0 all + poke_at t look.mark) going.is_told ∙ sym (pokes_more 0 all look.mark))
+                (sends_more old.link.sent mid.link.sent link.sent (pokes_of 0 all) (poke_at told look.mark) going.watched.said look.said))
+                (found_more (quiet_of 0 all) (quiet_at told look.mark) old.link.found mid.link.found link.found going.watched.found look.found
+                ∙ ap (λ n. counted_by n old.link.found) (ap (λ t. quiet_of 0 all + quiet_at t look.mark) going.is_told ∙ sym (quiet_more 0 all look.mark)));
             is_told = look.next ∙ ap (λ t. max t look.mark) going.is_told ∙ sym (told_more 0 all look.mark);
             are_pokes = ap (λ n. pokes + n) (same ∙ ap (λ t. poke_at t look.mark) going.is_told) ∙ ap (λ n. n + poke_at (told_after 0 all) look.mark) going.are_pokes ∙ sym (pokes_more 0 all look.mark);
             has_waited = length-append going.before (going.mark ∷ []) ∙ ap (λ n. n + 1) going.has_waited;
@@ -118,13 +123,11 @@ module _ {S : Type 0} (marks : S → List ℕ → ℕ → S → Type 0) where
             still = look.still ∙ going.still;
           }
 
-      -- no poke could be sent
-      pub fails : Unsent marks user told mid.teller teller mid.link link → Watches marks user old (session_state teller link bell) LinkFault
+      -- a look that didn't end well
+      pub fails : Lost marks user told mid.teller teller mid.link link → Watches marks user old (session_state teller link bell) LinkFault
       fails look = (
         all,
         look.mark,
-        subst (λ t. t < look.mark) going.is_told look.above,
-        after_ring look.mark (pokes_of 0 all) look.look
-            (subst (λ n. Sends old.link.sent (replicate n Poke) link.sent) going.are_pokes (sends_silent old.link.sent mid.link.sent link.sent (replicate pokes Poke) going.watched.said look.idle.silent)),
+        after_ring look.mark all look.look (sends_silent old.link.sent mid.link.sent link.sent (replicate (pokes_of 0 all) Poke) going.watched.said look.idle.silent) (look.idle.unfound ∙ going.watched.found),
         waited.1 ∙ going.not_over,
       )

@@ -17,11 +17,6 @@ abbrev pub user_named : List Account → First → Option (List ℕ)
 user_named accounts (Text key) = user_in key accounts
 user_named accounts Other = None
 
--- The mark that was told last, after looks with these marks: a look tells its mark where that is above what was told.
-abbrev pub told_after : ℕ → List ℕ → ℕ
-told_after told [] = told
-told_after told (mark ∷ marks) = told_after (max told mark) marks
-
 -- a look sends one poke where its mark is above what was told, and else none
 abbrev pub poke_at : ℕ → ℕ → ℕ
 poke_at told mark = if nat_lt told mark then 1 else 0
@@ -30,6 +25,15 @@ poke_at told mark = if nat_lt told mark then 1 else 0
 abbrev pub pokes_of : ℕ → List ℕ → ℕ
 pokes_of told [] = 0
 pokes_of told (mark ∷ marks) = poke_at told mark + pokes_of (max told mark) marks
+
+-- a look that sends no poke looks for the client
+abbrev pub quiet_at : ℕ → ℕ → ℕ
+quiet_at told mark = if nat_lt told mark then 0 else 1
+
+-- how many looks with these marks send no poke
+abbrev pub quiet_of : ℕ → List ℕ → ℕ
+quiet_of told [] = 0
+quiet_of told (mark ∷ marks) = quiet_at told mark + quiet_of (max told mark) marks
 
 -- What a session works with, as it is seen: who tells marks, its link and its bell.
 pub record SessionState (S : Type 0) : Type 0 where
@@ -70,24 +74,24 @@ module _ {S : Type 0} (marks : S → List ℕ → ℕ → S → Type 0) where
   Looks user old (mark ∷ more) new = (mid : S) × marks old user mark mid × Looks user mid more new
 
   -- A session of a user has made looks with the marks `before` and then one with `mark`: the first at the start, each other one after
-  -- a ring. Those before the last one sent fewer than 10,000 pokes, and there were at most 1,000,000 rings. So many pokes were sent,
-  -- and nothing else.
-  pub record Watched (user : List ℕ) (old new : SessionState S) (before : List ℕ) (mark pokes : ℕ) : Type 0 where
+  -- a ring. Those before the last one sent fewer than 10,000 pokes, and there were at most 1,000,000 rings. Of these looks the first ended
+  -- well, with these marks: just their pokes were sent, and at each of the others of them the client was there.
+  pub record Watched (user : List ℕ) (old new : SessionState S) (before : List ℕ) (mark : ℕ) (well : List ℕ) : Type 0 where
     pub looks : Looks user old.teller (before ++ mark ∷ []) new.teller
     pub rung : new.bell.rungs ≡ counted_by (length before) old.bell.rungs
     pub few : pokes_of 0 before < 10000
     pub waits : length before ≤ 1000000
-    pub said : Sends old.link.sent (replicate pokes Poke) new.link.sent
+    pub said : Sends old.link.sent (replicate (pokes_of 0 well) Poke) new.link.sent
+    pub found : new.link.found ≡ counted_by (quiet_of 0 well) old.link.found
 
-  -- How a session of a user ends. `Done`: its looks have sent their pokes, so many, and all is over or a limit is reached. `LinkFault`:
-  -- the mark of the last look is above what was told, just the pokes of the looks before it were sent, and nothing said that all is over.
+  -- How a session of a user ends. `Done`: all of its looks ended well, with so many pokes, and all is over or a limit is reached. `LinkFault`:
+  -- the last one didn't, so its poke could not be sent, or the client was not there; and nothing said that all is over.
   abbrev pub Watches : List ℕ → SessionState S → SessionState S → PokeEnd → Type 0
   Watches user old new (Done pokes) =
-      (before : List ℕ) × (mark : ℕ) × (pokes ≡ pokes_of 0 (before ++ mark ∷ [])) × Watched user old new before mark pokes
+      (before : List ℕ) × (mark : ℕ) × (pokes ≡ pokes_of 0 (before ++ mark ∷ [])) × Watched user old new before mark (before ++ mark ∷ [])
       × Stops pokes (length before) old.bell new.bell
   Watches user old new LinkFault =
-      (before : List ℕ) × (mark : ℕ) × (told_after 0 before < mark) × Watched user old new before mark (pokes_of 0 before)
-      × (new.bell.overs ≡ old.bell.overs)
+      (before : List ℕ) × (mark : ℕ) × Watched user old new before mark before × (new.bell.overs ≡ old.bell.overs)
   Watches user old new Denied = ⊥
   Watches user old new Memory = ⊥
 

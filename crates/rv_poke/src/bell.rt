@@ -3,7 +3,7 @@ ghost use Rattle.rv_poke.specs.Bells.{BellState, HasWaited};
 use crate::waited::Waited;
 use std::sync::Wait;
 
-/// What a session waits for. An answer is a hint: nothing is claimed of when it comes.
+/// What a session waits for. An answer is a hint: nothing is claimed of when it comes, and a bell may ring by itself.
 pub trait Bell {
     /// How often a wait ended as it was rung, and how often as all was over. The counts stand still at 2^64 - 1.
     ghost state: { Self → BellState };

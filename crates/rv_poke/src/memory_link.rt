@@ -16,6 +16,8 @@ pub struct MemoryLink {
     pub failing: Vec<u64>,
     /// How many calls there were.
     pub calls: u64,
+    /// How often its client was looked for and was there.
+    pub found: u64,
     /// How many of them failed.
     pub faults: u64,
 }
@@ -30,13 +32,14 @@ impl MemoryLink {
     /// A link to which this message is to come, or none.
     pub fn new(alloc: Global, coming: Option<First>, failing: Vec<u64>) -> MemoryLink
         ensures sent { result.sent.items ≡ [] }
-        ensures others { result ≡ record { coming = coming; sent = result.sent; failing = failing; calls = 0; faults = 0 } }
+        ensures others { result ≡ record { coming = coming; sent = result.sent; failing = failing; calls = 0; found = 0; faults = 0 } }
     {
         MemoryLink {
             coming,
             sent: Vec::new(alloc),
             failing,
             calls: 0,
+            found: 0,
             faults: 0,
         }
     }
@@ -71,7 +74,7 @@ impl PokeLink for MemoryLink {
     ghost use Rattle.rv_base.specs.Outside.{counted, counted_if};
     ghost use Rattle.rv_poke.specs.declared.sent.Sent.TheVariants.{Close, Poke};
     ghost use Rattle.rv_poke.specs.InMemory.{link_state};
-    ghost use Rattle.rv_poke.specs.Links.{Says, Takes};
+    ghost use Rattle.rv_poke.specs.Links.{Finds, Says, Takes};
 
     ghost state = { link_state };
 
@@ -108,6 +111,23 @@ impl PokeLink for MemoryLink {
         ensures after { self.new ≡ record self.old { sent = self.new.sent; calls = counted self.old.calls; faults = counted_if (is_err result) self.old.faults } }
     {
         self.say(Sent::Poke)
+    }
+
+    fn find(&mut self) -> Result<(), Failed>
+        ensures finds { Finds (link_state self.old) (link_state self.new) result }
+
+        // The client is there but at the calls of its list.
+        ensures fails { is_err result ≡ fails_next self.old.calls self.old.failing.items }
+
+        // Nothing else changes.
+        ensures after { self.new ≡ record self.old { calls = counted self.old.calls; found = counted_if (not (is_err result)) self.old.found; faults = counted_if (is_err result) self.old.faults } }
+    {
+        if self.fails() {
+            self.faults = self.faults.saturating_add(1);
+            return Err(Failed);
+        }
+        self.found = self.found.saturating_add(1);
+        Ok(())
     }
 
     fn close(&mut self, code: u16) -> Result<(), Failed>

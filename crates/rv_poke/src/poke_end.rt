@@ -5,7 +5,7 @@ pub enum PokeEnd {
     Done(u32),
     /// The first message was no account's key. A close with 1008 was tried.
     Denied,
-    /// The link failed, and its count of faults rose.
+    /// The link failed or its client has left, and the link's count of faults rose.
     LinkFault,
     /// Memory was refused before a first message was taken. Nothing was done.
     Memory,

@@ -33,7 +33,7 @@ fn user_of<'a>(accounts: &'a Accounts, first: &First) -> Option<&'a User>
     }
 }
 
-// Looks at a user's mark, and sends a poke where it is above what was told. Answers what is told now.
+// Looks at a user's mark, and sends a poke where it is above what was told; else it looks for the client. Answers what is told now.
 fn look<M: Marks, L: PokeLink>(
     marks: &mut M,
     user: &User,
@@ -44,6 +44,7 @@ fn look<M: Marks, L: PokeLink>(
 {
     let mark = marks.mark(user);
     if mark <= told {
+        link.find()?;
         return Ok(told);
     }
     link.send_poke()?;
@@ -94,9 +95,9 @@ fn watch<M: Marks, L: PokeLink, B: Bell, R: Wait>(
 ///
 /// The first message is to be a text that is an account's key; else the link is closed with 1008, and the session is denied, even
 /// where the close fails. From then on the session looks at its user's mark, at once and after each ring of the bell. A look sends
-/// the text `poke` exactly where the mark is above what was told, 0 at first, and then the mark is what was told. The session ends
-/// as all is over, after 10,000 pokes or after 1,000,000 waits, or where a poke can't be sent. A poke is sent before the bell is
-/// asked again.
+/// the text `poke` exactly where the mark is above what was told, 0 at first, and then the mark is what was told; where it sends none, it
+/// looks whether the client is there. The session ends as all is over, after 10,000 pokes or after 1,000,000 waits, where a poke
+/// can't be sent, or where the client has left. A poke is sent before the bell is asked again.
 pub fn poke_session<M: Marks, L: PokeLink, B: Bell, R: Wait>(
     rt: &R,
     alloc: Global,

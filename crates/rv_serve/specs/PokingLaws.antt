@@ -24,18 +24,18 @@ module _ {S V : Type 0} (shown : S → V) (Goes : S → S → Type 0) (goes_same
       ((shown mid, one, others), goes_on old mid new on further)
 
   module _ (old new : S) (link link' : LinkState) (bell bell' : BellState) where
-    watched_shown : (user before : List ℕ) (mark pokes : ℕ) → Watched marking user (session_state old link bell) (session_state new link' bell') before mark pokes
-        → Watched marks user (session_state (shown old) link bell) (session_state (shown new) link' bell') before mark pokes × Goes old new
-    watched_shown user before mark pokes watched =
+    watched_shown : (user before : List ℕ) (mark : ℕ) (well : List ℕ) → Watched marking user (session_state old link bell) (session_state new link' bell') before mark well
+        → Watched marks user (session_state (shown old) link bell) (session_state (shown new) link' bell') before mark well × Goes old new
+    watched_shown user before mark well watched =
         let (looks, on) = looks_shown user old (before ++ mark ∷ []) new watched.looks in
-        (record { looks = looks; rung = watched.rung; few = watched.few; waits = watched.waits; said = watched.said }, on)
+        (record { looks = looks; rung = watched.rung; few = watched.few; waits = watched.waits; said = watched.said; found = watched.found }, on)
 
     watches_shown : (user : List ℕ) (end : PokeEnd) → Watches marking user (session_state old link bell) (session_state new link' bell') end
         → Watches marks user (session_state (shown old) link bell) (session_state (shown new) link' bell') end × Goes old new
     watches_shown user (Done pokes) (before, mark, are, watched, stops) =
-        let (so, on) = watched_shown user before mark pokes watched in ((before, mark, are, so, stops), on)
-    watches_shown user LinkFault (before, mark, above, watched, still) =
-        let (so, on) = watched_shown user before mark _ watched in ((before, mark, above, so, still), on)
+        let (so, on) = watched_shown user before mark _ watched in ((before, mark, are, so, stops), on)
+    watches_shown user LinkFault (before, mark, watched, still) =
+        let (so, on) = watched_shown user before mark _ watched in ((before, mark, so, still), on)
     watches_shown user Denied never = absurd never
     watches_shown user Memory never = absurd never
 

@@ -7,12 +7,16 @@ use rv_poke::{Bell, Waited};
 use rv_serve::Gate;
 use std::sync::Wait;
 use std::sync::atomic::{AtomicU64, Ordering};
+use std::time::Duration;
 
 // What one ring adds to the word: below it there is space for as many workers as may leave.
 const RING: u64 = 256;
 
 // A wait sleeps while these bits of the word are as they were.
 const LOW: u64 = 1 << 32;
+
+// After so many seconds without a ring a wait ends as if it was rung, so that a session looks whether its client is still there.
+const QUIET_SECONDS: u64 = 60;
 
 /// What the workers of one run tell its poke jobs, in one word: in its low 8 bits how many workers have left, and above them how often
 /// something was entered that others may have to be told of. A change of it wakes all who wait.
@@ -74,14 +78,14 @@ impl Gate for RingingGate<'_> {
 }
 
 /// A bell that is rung where something was entered since it was asked last, and over once so many workers have left. A ring that is not yet
-/// heard comes before the end.
+/// heard comes before the end. It rings by itself after a minute in which it was not.
 #[derive(Drop)]
 pub struct WordBell<'r> {
     bells: &'r Bells,
     workers: u64,
     // How many rings there were when it was asked last.
     heard: u64,
-    /// How often a wait ended as it was rung. It stands still at 2^64 - 1.
+    /// How often a wait ended as it was rung, or a minute was over. It stands still at 2^64 - 1.
     pub rungs: u64,
     /// How often a wait ended as all was over. It stands still at 2^64 - 1.
     pub overs: u64,
@@ -124,14 +128,17 @@ impl Bell for WordBell<'_> {
     ghost state = { word_bell_state };
 
     fn wait<R: Wait>(&mut self, rt: &R) -> Waited {
-        for _look in rt.forever() {
-            let word = self.bells.word();
-            if let Some(waited) = self.hear(word) {
-                return waited;
-            }
-            self.bells.word.park(rt, (word % LOW) as u32);
+        let word = self.bells.word();
+        if let Some(waited) = self.hear(word) {
+            return waited;
         }
-        unreachable!()
+        let quiet = Duration::from_secs(QUIET_SECONDS);
+        self.bells.word.park_timeout(rt, (word % LOW) as u32, quiet);
+        if let Some(waited) = self.hear(self.bells.word()) {
+            return waited;
+        }
+        self.rungs = self.rungs.saturating_add(1);
+        Waited::Rung
     }
 
     fn is_over(&self) -> bool {

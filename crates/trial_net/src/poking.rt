@@ -21,7 +21,7 @@ enum Comes {
 // the link that fails, if it isn't 0.
 type Case = (&'static str, Comes, &'static [u32], u32, u64);
 
-static CASES: [Case; 16] = [
+static CASES: [Case; 18] = [
     (
         "a mark, nothing new, a higher mark",
         Comes::Text("Hello"),
@@ -44,27 +44,41 @@ static CASES: [Case; 16] = [
         2,
     ),
     (
-        "the second poke can't be sent",
+        "the client has left where nothing is new",
         Comes::Text("Hello"),
         &[1, 1, 3],
         2,
         3,
     ),
     (
-        "a later call would fail",
+        "the second poke can't be sent",
         Comes::Text("Hello"),
         &[1, 1, 3],
         2,
         4,
     ),
+    (
+        "a later call would fail",
+        Comes::Text("Hello"),
+        &[1, 1, 3],
+        2,
+        5,
+    ),
     ("no ring", Comes::Text("Hello"), &[1], 0, 0),
     ("no mark yet", Comes::Text("Hello"), &[0, 0], 1, 0),
     (
-        "no mark yet, and no poke to fail",
+        "no mark yet, and the client has left",
         Comes::Text("Hello"),
         &[0, 0],
         1,
         2,
+    ),
+    (
+        "no mark yet, and the client has left at the ring",
+        Comes::Text("Hello"),
+        &[0, 0],
+        1,
+        3,
     ),
     (
         "lower marks between",
@@ -113,8 +127,8 @@ fn play<R: Wait>(
     let looks = script.looks;
     let MemoryBell { left, rungs, overs } = bell;
     println!(rt;
-        "looks: {looks}, rungs: {rungs}, overs: {overs}, rings left: {left}, faults: {}",
-        link.faults
+        "looks: {looks}, found: {}, rungs: {rungs}, overs: {overs}, rings left: {left}, faults: {}",
+        link.found, link.faults
     )?;
     Ok(())
 }
