@@ -38,6 +38,8 @@ UNPLAYED = {
     (OPERATING, "RV_BY_HAND=1 RV_LOG=stdout RV_TLS_PORT=8443 RV_CERTIFICATE=~/rv.pem RV_PAGE=$PWD/examples/web "
      "haproxy -f examples/deploy/haproxy.cfg &"): NO_HAPROXY,
     (OPERATING, "systemctl reload haproxy"): NO_HAPROXY,
+    ("docs/contributing.md", 'python3 checks/case.py trial_serving "a list that ann shares with bob, and not with cat"'):
+        "a program of cases, which this check is not given",
     (OPERATING, "for name in north south; do curl -sk --resolve $name.example:443:127.0.0.1 -H 'Authorization: k-ann' "
      "-d @examples/push.json https://$name.example/push; echo; done"): "TLS, by HAProxy",
     (OPERATING, "systemctl enable --now rv-standby@lists rv-ship@lists.timer"): "a timer; what the two units run is played by hand before",
