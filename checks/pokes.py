@@ -156,7 +156,7 @@ def check_leaving(program):
 
 def check_quiet(program):
     """Clients of a user whom nothing concerns come and go: whatever anybody does frees the jobs of those that have left."""
-    server = Server(program, connections=10)
+    server = Server(program, connections=20)
     acts = 0
     for leave in (*LEAVES, *LEAVES):
         gone = [server.link("cat") for _ in range(4)]
