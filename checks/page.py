@@ -19,6 +19,7 @@ import time
 
 from browser import Driver, Window
 from links import free_port, same, wrong
+from long_list import check_long_list
 from proxied import KEYS, Site, missing_tools
 
 # In seconds: when one window must show what another did, while both have a link for pokes; and when it must after any trouble.
@@ -115,11 +116,15 @@ class Person:
         self.window.run(ADDING, prefix, count, pause)
 
     def todo(self, text):
-        """A selector of the todo with this text."""
-        place = self.window.run(SHOWN + "return texts.findIndex(([text]) => text === arguments[0]);", text)
-        if place < 0:
+        """A selector of the todo with this text, which is in sight then."""
+        found = self.window.run("""
+            const todos = [...document.querySelectorAll("#todos .todo")];
+            const found = todos.find((todo) => todo.querySelector(".text").textContent === arguments[0]);
+            found?.scrollIntoView({ block: "center" });
+            return found?.dataset.id ?? null;""", text)
+        if found is None:
             wrong(f"{self.user} has no todo {text!r}")
-        return f"#todos .todo:nth-child({place + 1})"
+        return f"#todos [data-id='{found}']"
 
     def check(self, text):
         self.window.click(f"{self.todo(text)} .check")
@@ -301,6 +306,31 @@ def check_kills(ann, bob, site, kills=5, each=60):
     print(f"kills: {2 * each} todos were made while the server was killed {kills} times; both windows show each once, {took:.1f} s after the last")
 
 
+def check_missed(ann, first, second, many=250):
+    """A tab that is told nothing of what another does shows it as it comes to the front: by the changes that are kept, or by all rows."""
+    for handle in (first, second):
+        ann.window.go_to(handle)
+        ann.set_network(False)
+    ann.in_state("offline", 0)
+    for count in (1, many):
+        ann.window.go_to(first)
+        ann.window.run("BroadcastChannel.prototype.postMessage = () => {}")
+        ann.begin_adding(f"untold {count}", count, 5)
+        ann.shows(ann.made[-1])
+        ann.rename(f"untold {count} 1", f"untold {count} once more")
+        ann.shows(f"untold {count} once more")
+        expected = ann.shown()
+        ann.window.go_to(second)
+        ann.window.run("document.dispatchEvent(new Event('visibilitychange'))")
+        took = ann.waits(f"the tab catches up with {count}", SHOWN + "return JSON.stringify(texts) === arguments[0];",
+                         json.dumps(expected, separators=(",", ":"), ensure_ascii=False))[1]
+    for handle in (first, second):
+        ann.window.go_to(handle)
+        ann.set_network(True)
+        ann.in_step()
+    print(f"a tab that was told nothing: it showed what was done meanwhile as it came to the front, {many} todos after {took * 1000:.0f} ms")
+
+
 def check_tabs(ann, bob):
     """Two tabs of one browser have clients of their own, and show the same; what a closed one left is sent by the other."""
     window, first = ann.window, ann.window.tab()
@@ -323,6 +353,7 @@ def check_tabs(ann, bob):
         ann.shows("x 20")
         ann.shows("y 20")
         ann.in_step()
+    check_missed(ann, first, second)
     ann.set_network(False)
     ann.add("as the second tab closes")
     ann.window.ask("DELETE", "/window")
@@ -526,6 +557,18 @@ def check_book(program, store, *people):
     print(f"book: the {sum(len(person.made) for person in people)} todos that were made stand once each among {len(entries)} entries of {len(ids)} clients")
 
 
+def check_thousands(program, folder, driver):
+    """A window over a store of its own, with thousands of todos."""
+    folder.mkdir()
+    with contextlib.ExitStack() as ending:
+        site = Site(program, folder, is_kept=False)
+        ending.callback(site.stop)
+        ann = Person(driver, site, "ann")
+        ending.callback(ann.window.close)
+        check_long_list(ann, site)
+        check_messages(ann)
+
+
 def main():
     if len(sys.argv) not in (2, 3):
         sys.exit("usage: checks/page.py PROGRAM [PICTURES]")
@@ -540,6 +583,7 @@ def main():
         driver = Driver(free_port())
         ending.callback(driver.stop)
         driver.wait()
+        check_thousands(program, folder / "thousands", driver)
         ann, bob = (Person(driver, site, user) for user in KEYS)
         for person in (ann, bob):
             ending.callback(person.window.close)

@@ -34,10 +34,10 @@ def asked(connection, path, user, body):
 
 
 class Site:
-    """The program over a store in a file, behind HAProxy."""
+    """The program over a store in a file of this folder, or one in memory, behind HAProxy."""
 
-    def __init__(self, program, folder):
-        self.program, self.folder, self.store = program, folder, folder / "lists.db"
+    def __init__(self, program, folder, is_kept=True):
+        self.program, self.folder, self.store = program, folder, folder / "lists.db" if is_kept else "memory"
         self.port, self.poke_port, self.tls_port = free_port(), free_port(), free_port()
         self.address = f"https://localhost:{self.tls_port}/"
         self.server, self.accounts = None, folder / "accounts.toml"

@@ -2,39 +2,61 @@
 import { Page } from "./page.js";
 import { Pokes } from "./pokes.js";
 import { takeSeat } from "./seat.js";
+import { tellOlder } from "./state.js";
 import { Store } from "./store.js";
 import { Sync } from "./sync.js";
+import { View } from "./view.js";
 
-const store = await Store.open();
+const store = await Store.open(tellOlder);
 const seat = await takeSeat(await store.seats());
+const view = new View();
 const sync = new Sync(store, told);
 const pokes = new Pokes({
-  key: () => session.key,
+  key: () => view.session.key,
   poked: () => sync.wake(),
   linked: (isLinked) => {
     sync.isPoked = isLinked;
     sync.wake();
   },
 });
-const page = new Page({
-  mutate: (...calls) => store.mutate(seat, calls).then(() => sync.nudge()),
+const page = new Page(view, {
+  mutate,
   signIn: (user, key) => store.signIn(user, key),
   signOut: () => store.signOut(),
   setKey: (key) => store.setKey(key).then(() => sync.wake()),
 });
 
-let session = await store.session();
-let refreshes = 0;
+let profileID;
+let [running, next] = [Promise.resolve(), undefined];
 
 /** Shows what is kept by now. Where another user is signed in than was, by whichever window, all begins again. */
-async function refresh() {
-  const turn = (refreshes += 1);
-  const snapshot = await store.snapshot();
-  if (snapshot.session?.profileID !== session?.profileID) {
-    location.reload();
-  } else if (turn === refreshes && snapshot.session !== undefined) {
-    session = snapshot.session;
-    page.show(snapshot);
+async function show() {
+  const change = await view.catchUp(store);
+  if (change === undefined) return;
+  if (view.session?.profileID !== profileID) location.reload();
+  else if (view.session !== undefined) page.show(change);
+}
+
+/** Has it shown, one time after the other: what has changed since one began is taken in by the next, for all who ask meanwhile. */
+function refresh() {
+  next ??= running.catch(() => {}).then(() => {
+    next = undefined;
+    return (running = show());
+  });
+  return next;
+}
+
+/** What a person did: is shown at once, and kept. */
+async function mutate(...calls) {
+  const [attempt, change] = view.attempt(calls);
+  page.show(change);
+  try {
+    await store.mutate(seat, calls, () => (attempt.isOver = true));
+    sync.nudge();
+  } catch (error) {
+    attempt.isOver = true;
+    await refresh();
+    page.setOutcome({ kind: "broken", error: error.message }, []);
   }
 }
 
@@ -53,16 +75,21 @@ function start() {
     pokes.renew();
     sync.wake();
   });
-  document.addEventListener("visibilitychange", () => sync.wake());
+  // a window that was frozen in the background may have heard nothing of what others did
+  const lookAgain = () => {
+    refresh();
+    sync.wake();
+  };
+  document.addEventListener("visibilitychange", lookAgain);
+  document.addEventListener("resume", lookAgain);
+  addEventListener("pageshow", lookAgain);
 }
 
+profileID = (await store.session())?.profileID;
 store.onChange(refresh);
-if (session === undefined) {
-  page.askWho();
-} else {
-  await refresh();
-  start();
-}
+await refresh();
+if (profileID === undefined) page.askWho();
+else start();
 
 // without it all works, but for loading the page while there is no network
 navigator.serviceWorker?.register("worker.js").catch(() => {});

@@ -13,6 +13,18 @@ export function setText(shown, text) {
   if (shown.textContent !== text) shown.textContent = text;
 }
 
+/** Has `child` stand before `next` in `parent`, or as the last where that is null. The focus stays where it is. */
+export function putBefore(parent, child, next) {
+  if (child.parentElement === parent && child.nextElementSibling === next) return;
+  if (child.isConnected && parent.moveBefore !== undefined) {
+    parent.moveBefore(child, next);
+    return;
+  }
+  const focused = child.contains(document.activeElement) ? document.activeElement : undefined;
+  parent.insertBefore(child, next);
+  focused?.focus({ preventScroll: true });
+}
+
 /**
  * Makes the children of `parent` those of `things`, one each, in their order. A child stays the same element as long as its
  * thing, known by its id, is there: so the focus, and what a person is just typing, stay where they are.
@@ -26,7 +38,7 @@ export function follow(parent, things, make, update) {
     child.dataset.id = thing.id;
     update(child, thing);
     if (child === next) next = next.nextElementSibling;
-    else parent.insertBefore(child, next);
+    else putBefore(parent, child, next);
     old.delete(thing.id);
   }
   for (const child of old.values()) child.remove();

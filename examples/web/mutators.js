@@ -1,24 +1,21 @@
 /**
- * The nine mutators, on the rows that this browser knows: a map of rows by the protocol's keys, `extent/USER`, `list/ID`,
+ * The nine mutators, on the rows that this browser knows (`Rows` of rows.js), by the protocol's keys, `extent/USER`, `list/ID`,
  * `share/ID` and `todo/ID`. The server has the last word by the same rules over all rows (docs/protocol.md, "Mutators"): a call
  * whose condition fails has no effect, there as here.
  */
-function sharesOf(view, listID) {
-  return [...view.values()].filter((row) => row.userID !== undefined && row.listID === listID);
-}
 
 /** Whether the user sees the list: they own it, or a share of it names them; and their extent names it, if they have one. */
 export function sees(view, user, listID) {
   const [list, extent] = [view.get(`list/${listID}`), view.get(`extent/${user}`)];
   if (list === undefined || extent?.lists.includes(listID) === false) return false;
-  return list.ownerID === user || sharesOf(view, listID).some((share) => share.userID === user);
+  return list.ownerID === user || view.sharesOf(listID).some((share) => share.userID === user);
 }
 
 /** Whether the user may edit the list's todos: they own it, or a share of it that is not for looking alone names them. */
 export function mayEdit(view, user, listID) {
   const list = view.get(`list/${listID}`);
   const lets = (share) => share.userID === user && share.role !== "view";
-  return list !== undefined && (list.ownerID === user || sharesOf(view, listID).some(lets));
+  return list !== undefined && (list.ownerID === user || view.sharesOf(listID).some(lets));
 }
 
 /** A share with a role; as the server's, one that lets edit names none. */
@@ -34,14 +31,15 @@ export const mutators = {
 
   deleteList(view, user, id) {
     if (view.get(`list/${id}`)?.ownerID !== user) return;
-    for (const [key, row] of view) {
-      if (key === `list/${id}` || row.listID === id) view.delete(key);
-    }
+    view.delete(`list/${id}`);
+    for (const share of view.sharesOf(id)) view.delete(`share/${share.id}`);
+    // the todos are those of the view itself, which get fewer at each
+    for (const todo of [...view.todosOf(id)]) view.delete(`todo/${todo.id}`);
   },
 
   createShare(view, user, { id, listID, userID, role }) {
     if (view.get(`list/${listID}`)?.ownerID !== user || userID === user || view.has(`share/${id}`)) return;
-    if (sharesOf(view, listID).some((share) => share.userID === userID)) return;
+    if (view.sharesOf(listID).some((share) => share.userID === userID)) return;
     view.set(`share/${id}`, withRole({ id, listID, userID }, role));
   },
 
@@ -59,8 +57,8 @@ export const mutators = {
 
   createTodo(view, user, { id, listID, text, complete }) {
     if (view.has(`todo/${id}`) || !mayEdit(view, user, listID)) return;
-    const sorts = [...view.values()].filter((row) => row.sort !== undefined && row.listID === listID).map((row) => row.sort);
-    const sort = Math.min(Math.max(0, ...sorts) + 1, Number.MAX_SAFE_INTEGER);
+    const greatest = view.todosOf(listID).at(-1)?.sort ?? 0;
+    const sort = Math.min(Math.max(0, greatest) + 1, Number.MAX_SAFE_INTEGER);
     view.set(`todo/${id}`, { id, listID, text, complete, sort });
   },
 

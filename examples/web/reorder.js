@@ -5,27 +5,32 @@ function placeAt(items, item, height) {
   return items.filter((other) => other !== item && other.getBoundingClientRect().top + other.offsetHeight / 2 < height).length;
 }
 
-/** `moved` is called with the place where the item stood and the one where it is to stand. */
-export function makeMovable(item, grip, moved) {
-  const placeOf = () => [...item.parentElement.children].indexOf(item);
+/** `moved` is called with the place where an item of `list`, whose `parts` have the items, stood and the one where it is to stand. */
+export function makeMovable(list, parts, moved) {
+  const placeOf = (item) => parts.items.indexOf(item);
 
-  grip.addEventListener("keydown", (event) => {
-    const to = placeOf() + ({ ArrowUp: -1, ArrowDown: 1 }[event.key] ?? NaN);
-    if (!(to >= 0 && to < item.parentElement.children.length)) return;
+  list.addEventListener("keydown", (event) => {
+    if (!event.target.matches(".grip")) return;
+    const from = placeOf(event.target.parentElement);
+    const to = from + ({ ArrowUp: -1, ArrowDown: 1 }[event.key] ?? NaN);
+    if (!(to >= 0 && to < parts.items.length)) return;
     event.preventDefault();
-    moved(placeOf(), to);
+    moved(from, to);
   });
 
-  grip.addEventListener("pointerdown", (event) => {
-    if (event.button !== 0) return;
+  list.addEventListener("pointerdown", (event) => {
+    const grip = event.target;
+    if (event.button !== 0 || !grip.matches(".grip")) return;
     event.preventDefault();
     grip.focus();
     grip.setPointerCapture(event.pointerId);
-    const drag = { from: placeOf(), to: placeOf(), start: event.clientY };
+    const item = grip.parentElement;
+    const drag = { from: placeOf(item), to: placeOf(item), start: event.clientY };
     item.classList.add("dragged");
+    list.classList.add("reordered");
 
     const follow = ({ clientY }) => {
-      const items = [...item.parentElement.children];
+      const { items } = parts;
       drag.to = placeAt(items, item, clientY);
       item.style.translate = `0 ${clientY - drag.start}px`;
       items.forEach((other, place) => {
@@ -39,7 +44,8 @@ export function makeMovable(item, grip, moved) {
       grip.removeEventListener("pointerup", drop);
       grip.removeEventListener("pointercancel", drop);
       item.classList.remove("dragged");
-      for (const other of item.parentElement?.children ?? []) other.style.translate = "";
+      list.classList.remove("reordered");
+      for (const other of parts.items) other.style.translate = "";
       if (type === "pointerup" && drag.to !== drag.from) moved(drag.from, drag.to);
     };
     grip.addEventListener("pointermove", follow);

@@ -5,14 +5,21 @@
  * - `rows`: the base view, just as the last pull gave it, by the protocol's keys.
  * - `seats`: for each seat, which is what one window has while it lives, its client and that client's last mutation id.
  * - `pending`: the mutations that no pull has confirmed yet, in the order in which they were made, whichever window made them.
+ * - `changes`: what the last changes were, by their numbers, so that a window reads no more than what it has not seen.
  *
- * Each change is one transaction over all four, so that windows of one browser never see half of one, and never number two
+ * Each change is one transaction over all of these, so that windows of one browser never see half of one, and never number two
  * mutations alike.
  */
 const NAME = "rv-lists";
-const VERSION = 1;
-const STORES = ["session", "rows", "seats", "pending"];
+/** Version 1 had no `changes`. */
+const VERSION = 2;
+const STORES = ["session", "rows", "seats", "pending", "changes"];
 const SESSION = "session";
+
+/** How many changes are kept. A window that has missed more reads all. */
+const KEPT_CHANGES = 200;
+/** How many rows a window reads one by one. Where more have changed, to read all is no slower. */
+const FEW_ROWS = 1_000;
 
 /** About how many characters of mutations one push has. The server takes 4,194,304 bytes, and a character has at most three. */
 const PUSH_LENGTH = 1_000_000;
@@ -24,11 +31,20 @@ function answered(request) {
   });
 }
 
-function makeStores(database) {
-  database.createObjectStore("session");
-  database.createObjectStore("rows");
-  database.createObjectStore("seats");
-  database.createObjectStore("pending", { keyPath: "sequence", autoIncrement: true });
+function makeStores(database, oldVersion) {
+  if (oldVersion < 1) {
+    database.createObjectStore("session");
+    database.createObjectStore("rows");
+    database.createObjectStore("seats");
+    database.createObjectStore("pending", { keyPath: "sequence", autoIncrement: true });
+  }
+  database.createObjectStore("changes", { keyPath: "revision", autoIncrement: true });
+}
+
+/** Notes a change: of which rows, and which mutations are pending no more; or that all is to be read anew. */
+async function note(changes, { rows = [], ended = [], isWhole = false }) {
+  const revision = await answered(changes.add(isWhole ? { isWhole } : { rows, ended }));
+  changes.delete(IDBKeyRange.upperBound(revision - KEPT_CHANGES));
 }
 
 const sameCookie = (one, other) => JSON.stringify(one) === JSON.stringify(other);
@@ -38,15 +54,24 @@ export class Store {
   #channel = new BroadcastChannel(NAME);
   #changed = () => {};
 
-  /** Opens what this browser keeps, and makes it where there is nothing yet. */
-  static async open() {
+  /**
+   * Opens what this browser keeps, and makes it where there is nothing yet. `blocked` is called where a window with an older
+   * version of the page has to be closed first.
+   */
+  static async open(blocked) {
     const request = indexedDB.open(NAME, VERSION);
-    request.onupgradeneeded = () => makeStores(request.result);
+    request.onupgradeneeded = ({ oldVersion }) => makeStores(request.result, oldVersion);
+    request.onblocked = blocked;
     return new Store(await answered(request));
   }
 
   constructor(database) {
     this.#database = database;
+    // a newer version of the page, in another window, waits for this one
+    database.onversionchange = () => {
+      database.close();
+      location.reload();
+    };
   }
 
   /** Has `changed` called after each change from now on, whichever window made it. A change of this window waits for its end. */
@@ -73,9 +98,10 @@ export class Store {
     }
   }
 
-  /** Like `#transact`, and then tells all windows, this one too. */
-  async #change(work) {
+  /** Like `#transact`, and then tells all windows, this one too; `kept` is called before. */
+  async #change(work, kept = () => {}) {
     const result = await this.#transact("readwrite", work);
+    kept();
     this.#channel.postMessage("changed");
     await this.#changed();
     return result;
@@ -90,20 +116,42 @@ export class Store {
     return this.#transact("readonly", ({ seats }) => answered(seats.getAllKeys()));
   }
 
-  /** All that is shown: the session, the base view, and what is pending. */
-  snapshot() {
-    return this.#transact("readonly", async ({ session, rows, pending }) => {
-      const [kept, keys, values, mutations] = await Promise.all(
-        [session.get(SESSION), rows.getAllKeys(), rows.getAll(), pending.getAll()].map(answered),
-      );
-      return { session: kept, rows: new Map(keys.map((key, at) => [key, values[at]])), pending: mutations };
+  /**
+   * What has changed since this revision, at which this was the last mutation: the session, the rows that are others (undefined
+   * where they are gone), the mutations that were made, and the sequences of those that ended. Or all, where it is not known
+   * what has changed. Undefined where nothing has.
+   */
+  since(revision, sequence) {
+    return this.#transact("readonly", async (stores) => {
+      const changes = await answered(stores.changes.getAll(IDBKeyRange.lowerBound(revision, true)));
+      if (changes.length === 0 && revision >= 0) return undefined;
+      const keys = [...new Set(changes.flatMap(({ rows = [] }) => rows))];
+      const isKnown = changes[0]?.revision === revision + 1 && changes.every(({ isWhole }) => !isWhole) && keys.length <= FEW_ROWS;
+      const read = isKnown ? this.#some(stores, keys, sequence) : this.#all(stores);
+      const ended = changes.flatMap((change) => change.ended ?? []);
+      return { revision: changes.at(-1)?.revision ?? 0, isWhole: !isKnown, ended, ...(await read) };
     });
+  }
+
+  async #all({ session, rows, pending }) {
+    const [kept, keys, values, mutations] = await Promise.all(
+      [session.get(SESSION), rows.getAllKeys(), rows.getAll(), pending.getAll()].map(answered),
+    );
+    return { session: kept, rows: keys.map((key, at) => [key, values[at]]), pending: mutations };
+  }
+
+  async #some({ session, rows, pending }, keys, sequence) {
+    const [kept, mutations, ...values] = await Promise.all(
+      [session.get(SESSION), pending.getAll(IDBKeyRange.lowerBound(sequence, true)), ...keys.map((key) => rows.get(key))].map(answered),
+    );
+    return { session: kept, rows: keys.map((key, at) => [key, values[at]]), pending: mutations };
   }
 
   /** Signs a user in, as a new client group that knows nothing. */
   signIn(user, key) {
-    return this.#change((stores) => {
+    return this.#change(async (stores) => {
       for (const name of STORES) stores[name].clear();
+      await note(stores.changes, { isWhole: true });
       const [profileID, groupID] = [crypto.randomUUID(), crypto.randomUUID()];
       stores.session.put({ user, key, profileID, groupID, cookie: null }, SESSION);
     });
@@ -113,26 +161,32 @@ export class Store {
   signOut() {
     return this.#change((stores) => {
       for (const name of STORES) stores[name].clear();
+      return note(stores.changes, { isWhole: true });
     });
   }
 
   setKey(key) {
-    return this.#change(async ({ session }) => {
+    return this.#change(async ({ session, changes }) => {
       const kept = await answered(session.get(SESSION));
       if (kept) session.put({ ...kept, key }, SESSION);
+      await note(changes, {});
     });
   }
 
-  /** Numbers these calls as the next mutations of the seat's client, and keeps them as pending. A call is `{ name, args }`. */
-  mutate(seat, calls) {
-    return this.#change(async ({ seats, pending }) => {
+  /**
+   * Numbers these calls as the next mutations of the seat's client, and keeps them as pending. A call is `{ name, args }`. `kept`
+   * is called once they are on the disk, before anybody is told.
+   */
+  mutate(seat, calls, kept) {
+    return this.#change(async ({ seats, pending, changes }) => {
       const client = (await answered(seats.get(seat))) ?? { clientID: crypto.randomUUID(), lastID: 0 };
       for (const { name, args } of calls) {
         client.lastID += 1;
         pending.add({ seat, clientID: client.clientID, id: client.lastID, name, args });
       }
       seats.put(client, seat);
-    });
+      await note(changes, {});
+    }, kept);
   }
 
   /** The pending mutations that come after this place in their order: as many as one push has. */
@@ -152,7 +206,7 @@ export class Store {
    */
   applyPull(asked, { cookie, lastMutationIDChanges, patch }) {
     if (sameCookie(cookie, asked.cookie)) return [];
-    return this.#change(async ({ session, rows, pending }) => {
+    return this.#change(async ({ session, rows, pending, changes }) => {
       const kept = await answered(session.get(SESSION));
       if (kept?.groupID !== asked.groupID || !sameCookie(kept.cookie, asked.cookie)) return [];
       for (const { op, key, value } of patch) {
@@ -163,7 +217,10 @@ export class Store {
       session.put({ ...kept, cookie }, SESSION);
       const mutations = await answered(pending.getAll());
       const confirmed = mutations.filter(({ clientID, id }) => id <= (lastMutationIDChanges[clientID] ?? 0));
-      for (const { sequence } of confirmed) pending.delete(sequence);
+      const ended = confirmed.map(({ sequence }) => sequence);
+      for (const sequence of ended) pending.delete(sequence);
+      const isWhole = patch.length > FEW_ROWS || patch.some(({ op }) => op === "clear");
+      await note(changes, { rows: patch.map(({ key }) => key), ended, isWhole });
       return confirmed;
     });
   }
@@ -173,7 +230,7 @@ export class Store {
    * from 1 by new clients. The rows stay until the first pull of the new group replaces them all.
    */
   beginAnew(groupID) {
-    return this.#change(async ({ session, seats, pending }) => {
+    return this.#change(async ({ session, seats, pending, changes }) => {
       const kept = await answered(session.get(SESSION));
       if (kept?.groupID !== groupID) return;
       session.put({ ...kept, groupID: crypto.randomUUID(), cookie: null }, SESSION);
@@ -186,6 +243,7 @@ export class Store {
         pending.put({ ...mutation, clientID: client.clientID, id: client.lastID });
       }
       for (const [seat, client] of clients) seats.put(client, seat);
+      await note(changes, { isWhole: true });
     });
   }
 }

@@ -1,11 +1,15 @@
 /** The todos of one list: how each is shown, checked, renamed, moved and deleted. */
-import { byId, element, follow, setText } from "./elements.js";
+import { byId, element, setText } from "./elements.js";
+import { Parts } from "./parts.js";
 import { makeMovable } from "./reorder.js";
+import { placeOf } from "./rows.js";
 import { moveCalls } from "./view.js";
 
 export class Todos {
-  #todos = [];
-  #isEditable = true;
+  #list = { todos: [] };
+  #items = new Map();
+  #parts = new Parts(byId("todos"));
+  #waiting = new Set();
   #mutate;
   #announce;
 
@@ -13,53 +17,88 @@ export class Todos {
   constructor(mutate, announce) {
     this.#mutate = mutate;
     this.#announce = announce;
+    // one listener for all items, of which there may be thousands
+    byId("todos").addEventListener("change", ({ target }) => {
+      if (target.matches(".check")) this.#mutate({ name: "updateTodo", args: { id: itemOf(target).dataset.id, complete: target.checked } });
+    });
+    byId("todos").addEventListener("click", ({ target }) => {
+      if (target.matches(".text") && this.#list.isEditable) this.#rename(itemOf(target));
+      if (target.matches(".remove")) this.#remove(itemOf(target));
+    });
+    makeMovable(byId("todos"), this.#parts, (from, to) => this.#move(from, to));
   }
 
   /**
-   * Shows these todos, to be changed or only to be seen; those whose ids are among `waiting` have mutations that the server has
-   * not confirmed.
+   * Shows the todos of this list; those whose ids are among `waiting` have mutations that the server has not confirmed. Where the
+   * ids of the todos that have changed are told, only these are touched.
    */
-  show(todos, isEditable, waiting) {
-    this.#todos = todos;
-    this.#isEditable = isEditable;
-    byId("todos").classList.toggle("only-seen", !isEditable);
-    follow(byId("todos"), todos, (id) => this.#make(id), (item, todo) => this.#update(item, todo, waiting.has(todo.id)));
-    byId("no-todos").hidden = todos.length > 0;
+  show(list, waiting, changed) {
+    if (list.id !== this.#list.id) {
+      this.#parts.clear();
+      this.#items.clear();
+    }
+    const isKnown = changed !== undefined && list.id === this.#list.id && list.isEditable === this.#list.isEditable;
+    this.#list = list;
+    this.#waiting = waiting;
+    byId("todos").classList.toggle("only-seen", !list.isEditable);
+    this.#showThese(isKnown ? changed : new Set([...this.#items.keys(), ...list.todos.map(({ id }) => id)]));
+    byId("no-todos").hidden = list.todos.length > 0;
+  }
+
+  /** No list is shown, so that nothing of what is shown next is known. */
+  forget() {
+    this.#list = { todos: [] };
+  }
+
+  /** Has the todo that came last be in sight. */
+  revealLast() {
+    this.#parts.last?.scrollIntoView({ block: "nearest" });
+  }
+
+  #showThese(ids) {
+    const { todos } = this.#list;
+    const places = [];
+    const byID = ids.size > 20 ? new Map(todos.map((todo) => [todo.id, todo])) : undefined;
+    for (const id of ids) {
+      const todo = byID === undefined ? this.#find(id) : byID.get(id);
+      if (todo !== undefined) places.push(placeOf(todos, todo));
+      else if (this.#items.has(id)) this.#drop(id);
+    }
+    // the last first, so that what an item stands before is in its place
+    for (const place of places.sort((one, other) => other - one)) {
+      const todo = todos[place];
+      const item = this.#items.get(todo.id) ?? make(todo.id);
+      this.#items.set(todo.id, item);
+      this.#update(item, todo);
+      this.#parts.put(item, this.#items.get(todos[place + 1]?.id) ?? null);
+    }
+  }
+
+  #drop(id) {
+    this.#parts.remove(this.#items.get(id));
+    this.#items.delete(id);
   }
 
   #find(id) {
-    return this.#todos.find((todo) => todo.id === id);
+    return this.#list.todos.find((todo) => todo.id === id);
   }
 
-  #make(id) {
-    const grip = element("button", { className: "grip", type: "button" });
-    const check = element("input", { className: "check", type: "checkbox" });
-    const text = element("button", { className: "text", type: "button" });
-    const remove = element("button", { className: "remove", type: "button" });
-    const item = element("li", { className: "todo" }, grip, check, text, remove);
-    makeMovable(item, grip, (from, to) => this.#move(from, to));
-    check.addEventListener("change", () => this.#mutate({ name: "updateTodo", args: { id, complete: check.checked } }));
-    text.addEventListener("click", () => {
-      if (this.#isEditable) this.#rename(item, this.#find(id));
-    });
-    remove.addEventListener("click", () => this.#remove(item));
-    return item;
-  }
-
-  #update(item, { text, complete }, isWaiting) {
+  #update(item, { id, text, complete }) {
     const [grip, check, shown, remove] = ["grip", "check", "text", "remove"].map((name) => item.querySelector(`:scope > .${name}`));
+    const [isEditable, isWaiting] = [this.#list.isEditable, this.#waiting.has(id)];
     item.classList.toggle("complete", complete);
     item.classList.toggle("waiting", isWaiting);
     check.checked = complete;
-    check.disabled = !this.#isEditable;
+    check.disabled = !isEditable;
     check.ariaLabel = text;
     setText(shown, text);
-    shown.title = !this.#isEditable ? "" : isWaiting ? "Rename (waits to be sent)" : "Rename";
+    shown.title = !isEditable ? "" : isWaiting ? "Rename (waits to be sent)" : "Rename";
     grip.ariaLabel = `Move ${text}, with the arrow keys`;
     remove.ariaLabel = `Delete ${text}`;
   }
 
-  #rename(item, todo) {
+  #rename(item) {
+    const todo = this.#find(item.dataset.id);
     const shown = item.querySelector(".text");
     const field = element("input", { className: "rename", value: todo.text, maxLength: 2000, ariaLabel: "New text", autocomplete: "off" });
     shown.hidden = true;
@@ -83,13 +122,29 @@ export class Todos {
   }
 
   #remove(item) {
-    const next = item.nextElementSibling ?? item.previousElementSibling;
+    const next = this.#parts.nextOf(item) ?? this.#parts.previousOf(item);
     (next?.querySelector(".remove") ?? byId("todo-text")).focus();
     this.#mutate({ name: "deleteTodo", args: item.dataset.id });
   }
 
   #move(from, to) {
-    this.#announce(`${this.#todos[from].text}: place ${to + 1} of ${this.#todos.length}`);
-    this.#mutate(...moveCalls(this.#todos, from, to));
+    const { todos } = this.#list;
+    this.#announce(`${todos[from].text}: place ${to + 1} of ${todos.length}`);
+    this.#mutate(...moveCalls(todos, from, to));
   }
+}
+
+const itemOf = (target) => target.closest(".todo");
+
+function make(id) {
+  const item = element(
+    "div",
+    { className: "todo", role: "listitem" },
+    element("button", { className: "grip", type: "button" }),
+    element("input", { className: "check", type: "checkbox" }),
+    element("button", { className: "text", type: "button" }),
+    element("button", { className: "remove", type: "button" }),
+  );
+  item.dataset.id = id;
+  return item;
 }

@@ -4,8 +4,8 @@
  */
 const CACHE = "rv-lists";
 const FILES = [
-  "./", "app.js", "elements.js", "icon.svg", "mutators.js", "page.js", "pause.js", "pokes.js", "protocol.js", "reorder.js",
-  "seat.js", "store.js", "style.css", "sync.js", "todos.js", "view.js",
+  "./", "app.js", "elements.js", "icon.svg", "mutators.js", "page.js", "parts.js", "pause.js", "pokes.js", "protocol.js", "reorder.js",
+  "rows.js", "seat.js", "sharing.js", "state.js", "store.js", "style.css", "sync.js", "todos.js", "view.js",
 ];
 
 async function fetched(request) {
