@@ -438,6 +438,44 @@ def check_hidden(ann, bob, pictures):
     print("hiding: a list that was hidden came back with what was done in it, and one that was made meanwhile stayed")
 
 
+def check_search(ann):
+    """A text is found over all lists, and its list is opened at it; so is what is completed, which can be hidden in a list."""
+    window, kept = ann.window, ann.shown()
+    ann.make_list("Cellar")
+    ann.add("Übermorgen aufräumen")
+    ann.shows("Übermorgen aufräumen")
+    window.type("#search-text", "üBERM")
+    found = """return [...document.querySelectorAll("#found-items a")].map((link) => [...link.children].map((part) => part.textContent));"""
+    same("what is found", [["Übermorgen aufräumen", "in Cellar"]], window.run(found))
+    window.run("document.getElementById('search-text').value = ''")
+    window.type("#search-text", "GROC")
+    same("the list that is found", ["Groceries", "a list"], window.run(found)[0])
+    window.run("document.querySelector('#completed').click()")
+    ann.waits("what is completed", "return document.getElementById('found-title').textContent === 'Completed'")
+    done = [[text, "completed, in Groceries"] for text, is_complete in kept if is_complete]
+    same("what is completed", done, window.run(found))
+    if not done:
+        wrong("nothing is completed")
+    text = done[-1][0]
+    window.run("document.querySelector('#found-items li:last-child a').click()")
+    ann.waits("the list is open at it", "return document.activeElement.textContent === arguments[0] && document.activeElement.matches('.text')", text)
+    same("the list's name", "Groceries", window.run("return document.getElementById('list-title').textContent"))
+    seen = "return [...document.querySelectorAll('#todos .todo')].filter((todo) => getComputedStyle(todo).display !== 'none').length"
+    window.click("#hide-completed")
+    same("the todos that are seen", len(kept) - len(done), window.run(seen))
+    window.click("#hide-completed")
+    same("the todos that are seen", len(kept), window.run(seen))
+    window.click("#rename-list")
+    ann.waits("why a list has no other name", "return document.getElementById('question').open && document.getElementById('question-text').textContent.includes('new list')")
+    window.click("#question-no")
+    ann.open_list("Cellar")
+    window.click("#delete-list")
+    window.click("#question-yes")
+    ann.open_list("Groceries")
+    ann.in_step()
+    print(f"search: a text and a list's name were found over all lists, as were the {len(done)} completed todos, which were hidden and shown")
+
+
 def check_refusals(ann, bob, site, pictures):
     """A key that is no longer taken, a version that is not served, and a client group that was ended."""
     site.kill_server()
@@ -597,6 +635,7 @@ def main():
         check_share_taken(ann, bob, pictures)
         check_roles(ann, bob, pictures)
         check_hidden(ann, bob, pictures)
+        check_search(ann)
         check_refusals(ann, bob, site, pictures)
         check_restore(ann, bob, site, pictures)
         check_wrong_name(driver, site)

@@ -44,11 +44,13 @@ export function follow(parent, things, make, update) {
   for (const child of old.values()) child.remove();
 }
 
-/** Asks a person a question that has a yes. */
+/** Asks a person a question that has this yes, or tells them something where there is none. */
 export function saysYes(question, yes) {
   const dialog = byId("question");
   setText(byId("question-text"), question);
-  setText(byId("question-yes"), yes);
+  setText(byId("question-yes"), yes ?? "");
+  byId("question-yes").hidden = yes === undefined;
+  setText(byId("question-no"), yes === undefined ? "Close" : "Cancel");
   dialog.returnValue = "";
   dialog.showModal();
   return new Promise((resolve) => {

@@ -1,11 +1,10 @@
 /** What a person sees, and what they do: each thing that they do is one call of a mutator, or more. */
 import { byId, element, follow, saysYes, setText } from "./elements.js";
+import { Found } from "./found.js";
+import { addressOf, COMPLETED, placeOf, searchFor } from "./place.js";
 import { changesText, noticeOf, otherName, showNotice, stateOf } from "./state.js";
 import { Sharing } from "./sharing.js";
 import { Todos } from "./todos.js";
-
-/** Where in the page a list is. */
-const addressOf = (id) => `#${encodeURIComponent(id)}`;
 
 /** How many lists an extent names at most. */
 const MOST_LISTS = 64;
@@ -26,6 +25,9 @@ export class Page {
   #isOtherName = false;
   #todos;
   #sharing;
+  #found;
+  /** Which element has the focus once the next place is shown, where it is not the heading. */
+  #focused;
 
   /** Shows `view`. `actions` are what the page can ask for: `mutate`, `signIn`, `setKey` and `signOut`. */
   constructor(view, actions) {
@@ -33,6 +35,7 @@ export class Page {
     this.#actions = actions;
     this.#todos = new Todos(actions.mutate, (text) => this.#announce(text));
     this.#sharing = new Sharing(view, actions.mutate, (text) => this.#announce(text));
+    this.#found = new Found(view);
     this.#onForm("list-form", "list-name", (name) => this.#addList(name));
     this.#onForm("todo-form", "todo-text", (text) => this.#addTodo(text));
     this.#onForm("key-form", "key-again", (key) => actions.setKey(key));
@@ -44,11 +47,14 @@ export class Page {
     byId("delete-list").addEventListener("click", () => this.#deleteList());
     byId("hide-list").addEventListener("click", () => actions.mutate(syncing(this.#synced.filter((id) => id !== this.#list.id))));
     byId("show-all").addEventListener("click", () => actions.mutate({ name: "setExtent", args: { lists: null } }));
-    addEventListener("hashchange", () => {
-      this.#showCurrent();
-      this.#showList();
-      byId(this.#list === undefined ? "list-name" : "list-title").focus({ preventScroll: true });
+    byId("rename-list").addEventListener("click", () => this.#tellName());
+    byId("list-title").addEventListener("dblclick", () => this.#tellName());
+    byId("search-text").addEventListener("input", ({ target }) => this.#search(target.value.trim()));
+    byId("search-form").addEventListener("submit", (event) => {
+      event.preventDefault();
+      byId("found-items").querySelector("a")?.focus();
     });
+    addEventListener("hashchange", () => this.#goTo(placeOf(location.hash)));
     for (const name of ["online", "offline"]) {
       addEventListener(name, () => {
         if (this.#view.session !== undefined) this.#showState();
@@ -68,6 +74,7 @@ export class Page {
     if (change.hasLists) this.#showLists();
     else for (const id of change.lists) this.#showSum(id);
     this.#showList(change);
+    this.#found.show(placeOf(location.hash));
     this.#showAccount();
     this.#showState();
   }
@@ -81,8 +88,35 @@ export class Page {
 
   /** The list that is open, or undefined. */
   get #list() {
-    const place = this.#view.lists.find(({ id }) => location.hash === addressOf(id));
-    return place && this.#view.list(place.id);
+    return this.#view.list(placeOf(location.hash).listID);
+  }
+
+  /** Shows another place of the page, and has the focus there. */
+  #goTo(place) {
+    byId("search-text").value = place.text ?? "";
+    this.#showPlace();
+    const shown = this.#list === undefined ? (byId("found").hidden ? "search-text" : "found-title") : "list-title";
+    byId(this.#focused ?? shown).focus({ preventScroll: true });
+    this.#focused = undefined;
+    if (place.todoID === undefined) scrollTo(0, 0);
+    else this.#todos.reveal(place.todoID);
+  }
+
+  #showPlace() {
+    this.#showCurrent();
+    this.#showList();
+    this.#found.show(placeOf(location.hash));
+  }
+
+  /** Shows what is found as somebody types. All of one search is one place, to which the browser goes back. */
+  #search(text) {
+    const isSearching = placeOf(location.hash).text !== undefined;
+    history[isSearching ? "replaceState" : "pushState"](null, "", text === "" ? "#" : searchFor(text));
+    this.#showPlace();
+  }
+
+  #tellName() {
+    saysYes("A list keeps the name that it was made with; the server knows no way to change it. To have another name, make a new list.");
   }
 
   /** The ids of the lists that are synced: those that the user's extent names, or all. */
@@ -103,10 +137,9 @@ export class Page {
     const id = crypto.randomUUID();
     const calls = [{ name: "createList", args: { id, name, ownerID: this.#view.session.user } }];
     if (this.#view.extent !== undefined) calls.push(syncing([...this.#synced, id]));
-    this.#actions.mutate(...calls).then(() => {
-      location.hash = addressOf(id);
-      byId("todo-text").focus();
-    });
+    this.#actions.mutate(...calls);
+    this.#focused = "todo-text";
+    location.hash = addressOf(id);
   }
 
   #addTodo(text) {
@@ -178,6 +211,7 @@ export class Page {
   }
 
   #showCurrent() {
+    byId("completed").ariaCurrent = location.hash === COMPLETED ? "page" : null;
     const id = this.#list?.id;
     for (const item of byId("lists").children) item.firstElementChild.ariaCurrent = item.dataset.id === id ? "page" : null;
   }
@@ -186,9 +220,13 @@ export class Page {
   #showList(change = { isWhole: true, hasLists: true }) {
     const list = this.#list;
     byId("list").hidden = list === undefined;
-    byId("no-list").hidden = list !== undefined || this.#view.lists.length === 0;
-    byId("app").classList.toggle("with-list", list !== undefined);
-    document.title = list === undefined ? "Lists" : `${list.name} · Lists`;
+    const { text, isCompleted = false } = placeOf(location.hash);
+    const isFinding = text !== undefined || isCompleted;
+    byId("no-list").hidden = list !== undefined || isFinding || this.#view.lists.length === 0;
+    byId("app").classList.toggle("with-list", list !== undefined || isCompleted);
+    byId("app").classList.toggle("with-search", text !== undefined);
+    const title = list?.name ?? (isCompleted ? "Completed" : text === undefined ? undefined : "Search");
+    document.title = title === undefined ? "Lists" : `${title} · Lists`;
     if (list === undefined) {
       this.#todos.forget();
       return;

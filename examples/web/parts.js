@@ -27,10 +27,6 @@ export class Parts {
     return item.nextElementSibling ?? item.parentElement.nextElementSibling?.firstElementChild ?? null;
   }
 
-  previousOf(item) {
-    return item.previousElementSibling ?? item.parentElement.previousElementSibling?.lastElementChild ?? null;
-  }
-
   /** Has the item stand before `next`, or as the last where that is null. Where it does already, nothing is touched. */
   put(item, next) {
     const before = item.parentElement;

@@ -5,15 +5,18 @@ function placeAt(items, item, height) {
   return items.filter((other) => other !== item && other.getBoundingClientRect().top + other.offsetHeight / 2 < height).length;
 }
 
-/** `moved` is called with the place where an item of `list`, whose `parts` have the items, stood and the one where it is to stand. */
-export function makeMovable(list, parts, moved) {
-  const placeOf = (item) => parts.items.indexOf(item);
+/**
+ * `itemsOf` gives the items of `list` that a person sees, in their order; `moved` is called with the place among them where an
+ * item stood and the one where it is to stand.
+ */
+export function makeMovable(list, itemsOf, moved) {
+  const placeOf = (item) => itemsOf().indexOf(item);
 
   list.addEventListener("keydown", (event) => {
     if (!event.target.matches(".grip")) return;
     const from = placeOf(event.target.parentElement);
     const to = from + ({ ArrowUp: -1, ArrowDown: 1 }[event.key] ?? NaN);
-    if (!(to >= 0 && to < parts.items.length)) return;
+    if (!(to >= 0 && to < itemsOf().length)) return;
     event.preventDefault();
     moved(from, to);
   });
@@ -30,7 +33,7 @@ export function makeMovable(list, parts, moved) {
     list.classList.add("reordered");
 
     const follow = ({ clientY }) => {
-      const { items } = parts;
+      const items = itemsOf();
       drag.to = placeAt(items, item, clientY);
       item.style.translate = `0 ${clientY - drag.start}px`;
       items.forEach((other, place) => {
@@ -45,7 +48,7 @@ export function makeMovable(list, parts, moved) {
       grip.removeEventListener("pointercancel", drop);
       item.classList.remove("dragged");
       list.classList.remove("reordered");
-      for (const other of parts.items) other.style.translate = "";
+      for (const other of itemsOf()) other.style.translate = "";
       if (type === "pointerup" && drag.to !== drag.from) moved(drag.from, drag.to);
     };
     grip.addEventListener("pointermove", follow);

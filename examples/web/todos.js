@@ -5,6 +5,10 @@ import { makeMovable } from "./reorder.js";
 import { placeOf } from "./rows.js";
 import { moveCalls } from "./view.js";
 
+/** Whether this window hides what is completed, as long as it lives. */
+const HIDES = "rv-lists-hides-completed";
+const hidesCompleted = () => sessionStorage.getItem(HIDES) === "true";
+
 export class Todos {
   #list = { todos: [] };
   #items = new Map();
@@ -25,7 +29,9 @@ export class Todos {
       if (target.matches(".text") && this.#list.isEditable) this.#rename(itemOf(target));
       if (target.matches(".remove")) this.#remove(itemOf(target));
     });
-    makeMovable(byId("todos"), this.#parts, (from, to) => this.#move(from, to));
+    byId("hide-completed").addEventListener("click", () => this.#hideCompleted(!hidesCompleted()));
+    this.#hideCompleted(hidesCompleted());
+    makeMovable(byId("todos"), () => this.#seen, (from, to) => this.#move(from, to));
   }
 
   /**
@@ -53,6 +59,25 @@ export class Todos {
   /** Has the todo that came last be in sight. */
   revealLast() {
     this.#parts.last?.scrollIntoView({ block: "nearest" });
+  }
+
+  /** Has this todo be in sight, with the focus, where it is there. */
+  reveal(id) {
+    const item = this.#items.get(id);
+    if (item?.classList.contains("complete")) this.#hideCompleted(false);
+    item?.scrollIntoView({ block: "center" });
+    item?.querySelector(".text").focus({ preventScroll: true });
+  }
+
+  /** The items that a person sees. */
+  get #seen() {
+    return this.#parts.items.filter((item) => !hidesCompleted() || !item.classList.contains("complete"));
+  }
+
+  #hideCompleted(isHiding) {
+    sessionStorage.setItem(HIDES, isHiding);
+    byId("todos").classList.toggle("hides-completed", isHiding);
+    byId("hide-completed").ariaPressed = isHiding;
   }
 
   #showThese(ids) {
@@ -122,13 +147,16 @@ export class Todos {
   }
 
   #remove(item) {
-    const next = this.#parts.nextOf(item) ?? this.#parts.previousOf(item);
+    const seen = this.#seen;
+    const place = seen.indexOf(item);
+    const next = seen[place + 1] ?? seen[place - 1];
     (next?.querySelector(".remove") ?? byId("todo-text")).focus();
     this.#mutate({ name: "deleteTodo", args: item.dataset.id });
   }
 
-  #move(from, to) {
+  #move(seenFrom, seenTo) {
     const { todos } = this.#list;
+    const [from, to] = [seenFrom, seenTo].map((place) => this.#parts.items.indexOf(this.#seen[place]));
     this.#announce(`${todos[from].text}: place ${to + 1} of ${todos.length}`);
     this.#mutate(...moveCalls(todos, from, to));
   }

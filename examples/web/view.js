@@ -101,6 +101,11 @@ export class View {
     return { ...list, shares, todos, done, isEditable: mayEdit(this.#rows, this.session.user, id) };
   }
 
+  /** The todos of a list, in their order. */
+  todosOf(id) {
+    return this.#rows.todosOf(id);
+  }
+
   /** How many todos of a list are not done, whose it is, and whether it is shared. */
   sumOf(id) {
     const open = this.#rows.todosOf(id).length - this.#rows.doneOf(id);
