@@ -11,7 +11,7 @@ import urllib.error
 import urllib.request
 
 ELEMENT = "element-6066-11e4-a52e-4f735466cecf"
-KEYS = {"Enter": "\ue007", "Escape": "\ue00c", "ArrowUp": "\ue013", "ArrowDown": "\ue015", "Tab": "\ue004"}
+KEYS = {"Enter": "\ue007", "Escape": "\ue00c", "ArrowUp": "\ue013", "ArrowDown": "\ue015", "Tab": "\ue004", "Shift": "\ue008", "Control": "\ue009"}
 
 
 class Driver:
@@ -93,6 +93,8 @@ class Window:
         return self.ask("POST", "/element", {"using": "css selector", "value": selector})[ELEMENT]
 
     def click(self, selector):
+        # away from what stays at the edges of the window while the page is scrolled
+        self.run("document.querySelector(arguments[0])?.scrollIntoView({ block: 'center' })", selector)
         self.ask("POST", f"/element/{self.find(selector)}/click", {})
 
     def type(self, selector, *texts):
@@ -104,6 +106,12 @@ class Window:
         """Presses keys one after the other, wherever the focus is."""
         actions = [{"type": kind, "value": KEYS.get(key, key)} for key in keys for kind in ("keyDown", "keyUp")]
         self.ask("POST", "/actions", {"actions": [{"type": "key", "id": "keyboard", "actions": actions}]})
+
+    def press_with(self, held, key):
+        """Presses a key while another one is held."""
+        actions = [("keyDown", held), ("keyDown", key), ("keyUp", key), ("keyUp", held)]
+        steps = [{"type": kind, "value": KEYS.get(one, one)} for kind, one in actions]
+        self.ask("POST", "/actions", {"actions": [{"type": "key", "id": "keyboard", "actions": steps}]})
 
     def drag(self, selector, onto):
         """Drags the middle of one element beyond the middle of another, by the mouse."""

@@ -17,6 +17,7 @@ import sys
 import tempfile
 import time
 
+from access import audit, check_keys, fits
 from browser import Driver, Window
 from links import free_port, same, wrong
 from long_list import check_long_list
@@ -134,8 +135,25 @@ class Person:
         self.window.run("document.querySelector('.rename').select()")
         self.window.type(".rename", new, "Enter")
 
-    def delete(self, text):
+    def delete(self, text, is_final=True):
         self.window.click(f"{self.todo(text)} .remove")
+        if is_final:
+            self.delete_now(text)
+
+    def offered(self, text):
+        self.waits(f"the offer to undo {text!r}", """
+            return !document.getElementById("offer").hidden && document.getElementById("offer-text").textContent.includes(arguments[0]);""", text)
+
+    def delete_now(self, text):
+        self.offered(text)
+        self.window.click("#delete-now")
+        self.not_offered()
+
+    def not_offered(self):
+        self.waits("no offer to undo", "return document.getElementById('offer').hidden")
+
+    def is_gone(self, text):
+        self.waits(f"{text!r} is gone", SHOWN + "return !texts.some(([text]) => text === arguments[0]);", text)
 
     def shown(self):
         """The todos of the list that is open, in their order, with whether each is complete."""
@@ -166,8 +184,10 @@ class Pictures:
         person.window.picture(self.folder / f"{self.count:02}-{name}-{person.user}.png")
 
     def take_all_looks(self, person, name):
-        """In light and dark, and both at a phone's width too."""
+        """In light and dark, and both at a phone's width too; and audits what is shown."""
         devtools = person.window.devtools
+        audit(person, name)
+        fits(person, name)
         for scheme in ("light", "dark"):
             devtools("Emulation.setEmulatedMedia", features=[{"name": "prefers-color-scheme", "value": scheme}])
             self.take(person, f"{name}-{scheme}")
@@ -176,6 +196,12 @@ class Pictures:
                 wrong(f"{name} at a phone's width is wider than the phone")
             self.take(person, f"{name}-phone-{scheme}")
             devtools("Emulation.clearDeviceMetricsOverride")
+        devtools("Emulation.setDeviceMetricsOverride", **{**PHONE, "width": 320, "height": 640})
+        self.take(person, f"{name}-narrow")
+        person.window.run("document.documentElement.style.fontSize = '200%'")
+        self.take(person, f"{name}-narrow-large")
+        person.window.run("document.documentElement.style.fontSize = ''")
+        devtools("Emulation.clearDeviceMetricsOverride")
         devtools("Emulation.setEmulatedMedia", features=[])
 
 
@@ -438,7 +464,77 @@ def check_hidden(ann, bob, pictures):
     print("hiding: a list that was hidden came back with what was done in it, and one that was made meanwhile stayed")
 
 
-def check_search(ann):
+def check_undo(ann, bob, pictures):
+    """What was deleted is undone with what the other did to it meanwhile, also in another tab; and is deleted where it is not, also after a reload."""
+    for text in ("attic 1", "attic 2", "attic 3"):
+        ann.add(text)
+        bob.shows(text)
+    order = [text for text, _ in ann.shown()]
+    ann.delete("attic 1", is_final=False)
+    ann.offered("attic 1")
+    ann.is_gone("attic 1")
+    bob.check("attic 1")
+    bob.in_step()
+    ann.window.press_with("Control", "z")
+    ann.shows("attic 1", True)
+    same("the order after a deletion was undone", order, [text for text, _ in ann.shown()])
+    same("what has the focus", "attic 1", ann.window.run("return document.activeElement.textContent"))
+    ann.not_offered()
+    ann.make_list("Garage")
+    ann.share("bob")
+    ann.add("garage 1")
+    bob.open_list("Garage")
+    bob.shows("garage 1")
+    ann.in_step()
+    ann.window.click("#delete-list")
+    ann.window.click("#question-yes")
+    ann.offered("Garage")
+    same("what has the focus", "undo", ann.window.run("return document.activeElement.id"))
+    pictures.take(ann, "undo")
+    bob.add("garage 2")
+    bob.in_step()
+    first = ann.window.tab()
+    second = ann.window.new_tab(ann.site.address)
+    ann.offered("Garage")
+    ann.window.click("#undo")
+    ann.open_list("Garage")
+    ann.shows("garage 2")
+    ann.window.ask("DELETE", "/window")
+    ann.window.go_to(first)
+    ann.open_list("Garage")
+    come_together(ann, bob)
+    same("the todos of a list that came back", ["garage 1", "garage 2"], [text for text, _ in ann.shown()])
+    ann.waits("the share that came back", "return document.querySelector('#shares li span')?.textContent === 'bob'")
+    for person in (ann, bob):
+        person.open_list("Groceries")
+    ann.set_network(False)
+    ann.delete("attic 2", is_final=False)
+    ann.offered("attic 2")
+    ann.window.reload()
+    ann.offered("attic 2")
+    start = time.monotonic()
+    ann.not_offered()
+    took = time.monotonic() - start
+    ann.in_state("offline", 1)
+    ann.set_network(True)
+    bob.is_gone("attic 2")
+    ann.delete("attic 3", is_final=False)
+    ann.offered("attic 3")
+    ann.window.open("about:blank")
+    bob.shows("attic 3")
+    ann.window.open(ann.site.address)
+    bob.is_gone("attic 3")
+    ann.open_list("Garage")
+    ann.window.click("#delete-list")
+    ann.window.click("#question-yes")
+    ann.delete_now("Garage")
+    for person in (ann, bob):
+        person.open_list("Groceries")
+    come_together(ann, bob)
+    print(f"undo: a todo and a list came back with what the other did meanwhile, the list by another tab; others went in the end, {took:.1f} s after a reload")
+
+
+def check_search(ann, pictures):
     """A text is found over all lists, and its list is opened at it; so is what is completed, which can be hidden in a list."""
     window, kept = ann.window, ann.shown()
     ann.make_list("Cellar")
@@ -447,6 +543,7 @@ def check_search(ann):
     window.type("#search-text", "üBERM")
     found = """return [...document.querySelectorAll("#found-items a")].map((link) => [...link.children].map((part) => part.textContent));"""
     same("what is found", [["Übermorgen aufräumen", "in Cellar"]], window.run(found))
+    pictures.take_all_looks(ann, "search")
     window.run("document.getElementById('search-text').value = ''")
     window.type("#search-text", "GROC")
     same("the list that is found", ["Groceries", "a list"], window.run(found)[0])
@@ -635,7 +732,10 @@ def main():
         check_share_taken(ann, bob, pictures)
         check_roles(ann, bob, pictures)
         check_hidden(ann, bob, pictures)
-        check_search(ann)
+        check_undo(ann, bob, pictures)
+        check_search(ann, pictures)
+        check_keys(ann)
+        ann.open_list("Groceries")
         check_refusals(ann, bob, site, pictures)
         check_restore(ann, bob, site, pictures)
         check_wrong_name(driver, site)

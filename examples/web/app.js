@@ -3,14 +3,14 @@ import { Page } from "./page.js";
 import { Pokes } from "./pokes.js";
 import { takeSeat } from "./seat.js";
 import { tellOlder } from "./state.js";
-import { Store } from "./store.js";
+import { HOLD, Store } from "./store.js";
 import { Sync } from "./sync.js";
 import { View } from "./view.js";
 
 const store = await Store.open(tellOlder);
 const seat = await takeSeat(await store.seats());
 const view = new View();
-const sync = new Sync(store, told);
+const sync = new Sync(store, seat, told);
 const pokes = new Pokes({
   key: () => view.session.key,
   poked: () => sync.wake(),
@@ -20,13 +20,20 @@ const pokes = new Pokes({
   },
 });
 const page = new Page(view, {
-  mutate,
+  mutate: (...calls) => attempt(calls, (kept) => store.mutate(seat, calls, kept)).then(() => sync.nudge()),
+  hold: (call) => {
+    const held = { ...call, until: Date.now() + HOLD };
+    return attempt([held], (kept) => store.hold(held, kept));
+  },
+  undo: (sequence) => store.undo(sequence),
+  deleteNow: () => release(Infinity),
   signIn: (user, key) => store.signIn(user, key),
   signOut: () => store.signOut(),
   setKey: (key) => store.setKey(key).then(() => sync.wake()),
 });
 
 let profileID;
+let holding;
 let [running, next] = [Promise.resolve(), undefined];
 
 /** Shows what is kept by now. Where another user is signed in than was, by whichever window, all begins again. */
@@ -35,6 +42,13 @@ async function show() {
   if (change === undefined) return;
   if (view.session?.profileID !== profileID) location.reload();
   else if (view.session !== undefined) page.show(change);
+  clearTimeout(holding);
+  if (view.held.length > 0) holding = setTimeout(() => release(Date.now()), Math.max(0, view.held[0].until - Date.now()) + 1);
+}
+
+/** Has what was held back until now be sent. */
+function release(now) {
+  return store.release(seat, now).then(() => sync.nudge());
 }
 
 /** Has it shown, one time after the other: what has changed since one began is taken in by the next, for all who ask meanwhile. */
@@ -46,15 +60,14 @@ function refresh() {
   return next;
 }
 
-/** What a person did: is shown at once, and kept. */
-async function mutate(...calls) {
-  const [attempt, change] = view.attempt(calls);
+/** What a person did: is shown at once, and kept by `keep`. */
+async function attempt(calls, keep) {
+  const [made, change] = view.attempt(calls);
   page.show(change);
   try {
-    await store.mutate(seat, calls, () => (attempt.isOver = true));
-    sync.nudge();
+    await keep(() => (made.isOver = true));
   } catch (error) {
-    attempt.isOver = true;
+    made.isOver = true;
     await refresh();
     page.setOutcome({ kind: "broken", error: error.message }, []);
   }

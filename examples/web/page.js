@@ -5,6 +5,7 @@ import { addressOf, COMPLETED, placeOf, searchFor } from "./place.js";
 import { changesText, noticeOf, otherName, showNotice, stateOf } from "./state.js";
 import { Sharing } from "./sharing.js";
 import { Todos } from "./todos.js";
+import { Undo } from "./undo.js";
 
 /** How many lists an extent names at most. */
 const MOST_LISTS = 64;
@@ -26,16 +27,18 @@ export class Page {
   #todos;
   #sharing;
   #found;
+  #undo;
   /** Which element has the focus once the next place is shown, where it is not the heading. */
   #focused;
 
-  /** Shows `view`. `actions` are what the page can ask for: `mutate`, `signIn`, `setKey` and `signOut`. */
+  /** Shows `view`. `actions` are what the page can ask for. */
   constructor(view, actions) {
     this.#view = view;
     this.#actions = actions;
-    this.#todos = new Todos(actions.mutate, (text) => this.#announce(text));
+    this.#todos = new Todos(actions, (text) => this.#announce(text));
     this.#sharing = new Sharing(view, actions.mutate, (text) => this.#announce(text));
     this.#found = new Found(view);
+    this.#undo = new Undo(view, actions, (call) => this.#showAgain(call));
     this.#onForm("list-form", "list-name", (name) => this.#addList(name));
     this.#onForm("todo-form", "todo-text", (text) => this.#addTodo(text));
     this.#onForm("key-form", "key-again", (key) => actions.setKey(key));
@@ -75,6 +78,7 @@ export class Page {
     else for (const id of change.lists) this.#showSum(id);
     this.#showList(change);
     this.#found.show(placeOf(location.hash));
+    this.#undo.show();
     this.#showAccount();
     this.#showState();
   }
@@ -100,6 +104,13 @@ export class Page {
     this.#focused = undefined;
     if (place.todoID === undefined) scrollTo(0, 0);
     else this.#todos.reveal(place.todoID);
+  }
+
+  /** Has the focus on what was deleted and is back. */
+  #showAgain({ name, args: id }) {
+    if (name === "deleteTodo") this.#todos.reveal(id);
+    else if (this.#list?.id === id) byId("list-title").focus();
+    else location.hash = addressOf(id);
   }
 
   #showPlace() {
@@ -151,11 +162,13 @@ export class Page {
   async #deleteList() {
     const { id, name, shares } = this.#list;
     const others = shares.length > 0 ? ", for all who see it" : "";
-    if (await saysYes(`Delete “${name}” and its todos${others}?`, "Delete")) this.#actions.mutate({ name: "deleteList", args: id });
+    if (!(await saysYes(`Delete “${name}” and its todos${others}?`, "Delete"))) return;
+    await this.#actions.hold({ name: "deleteList", args: id, label: name });
+    byId("undo").focus();
   }
 
   async #signOut() {
-    const { waiting } = this.#view;
+    const waiting = this.#view.waiting + this.#view.held.length;
     const loss = waiting > 0 ? ` What has not been sent yet, ${changesText(waiting)}, would be lost.` : "";
     if (await saysYes(`Sign out, and forget the lists in this browser?${loss}`, "Sign out")) this.#actions.signOut();
   }

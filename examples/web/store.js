@@ -5,6 +5,7 @@
  * - `rows`: the base view, just as the last pull gave it, by the protocol's keys.
  * - `seats`: for each seat, which is what one window has while it lives, its client and that client's last mutation id.
  * - `pending`: the mutations that no pull has confirmed yet, in the order in which they were made, whichever window made them.
+ *   One that is held back has a time, `until`, in place of a client and an id.
  * - `changes`: what the last changes were, by their numbers, so that a window reads no more than what it has not seen.
  *
  * Each change is one transaction over all of these, so that windows of one browser never see half of one, and never number two
@@ -15,6 +16,9 @@ const NAME = "rv-lists";
 const VERSION = 2;
 const STORES = ["session", "rows", "seats", "pending", "changes"];
 const SESSION = "session";
+
+/** For how many milliseconds a deletion is held back, so that it can be undone. */
+export const HOLD = 10_000;
 
 /** How many changes are kept. A window that has missed more reads all. */
 const KEPT_CHANGES = 200;
@@ -46,6 +50,18 @@ async function note(changes, { rows = [], ended = [], isWhole = false }) {
   const revision = await answered(changes.add(isWhole ? { isWhole } : { rows, ended }));
   changes.delete(IDBKeyRange.upperBound(revision - KEPT_CHANGES));
 }
+
+/** Numbers these calls as the next mutations of the seat's client, and adds them to what is pending. */
+async function number({ seats, pending }, seat, calls) {
+  const client = (await answered(seats.get(seat))) ?? { clientID: crypto.randomUUID(), lastID: 0 };
+  for (const { name, args } of calls) {
+    client.lastID += 1;
+    pending.add({ seat, clientID: client.clientID, id: client.lastID, name, args });
+  }
+  seats.put(client, seat);
+}
+
+const isHeld = ({ until }) => until !== undefined;
 
 const sameCookie = (one, other) => JSON.stringify(one) === JSON.stringify(other);
 
@@ -178,21 +194,48 @@ export class Store {
    * is called once they are on the disk, before anybody is told.
    */
   mutate(seat, calls, kept) {
-    return this.#change(async ({ seats, pending, changes }) => {
-      const client = (await answered(seats.get(seat))) ?? { clientID: crypto.randomUUID(), lastID: 0 };
-      for (const { name, args } of calls) {
-        client.lastID += 1;
-        pending.add({ seat, clientID: client.clientID, id: client.lastID, name, args });
-      }
-      seats.put(client, seat);
-      await note(changes, {});
+    return this.#change(async (stores) => {
+      await number(stores, seat, calls);
+      await note(stores.changes, {});
     }, kept);
+  }
+
+  /** Keeps a call, with its `until` and what it is called by, that is not to be sent before it is released. */
+  hold(call, kept) {
+    return this.#change(({ pending, changes }) => {
+      pending.add(call);
+      return note(changes, {});
+    }, kept);
+  }
+
+  /** Takes back a call that is held. Whether it still was. */
+  undo(sequence) {
+    return this.#change(async ({ pending, changes }) => {
+      const held = await answered(pending.get(sequence));
+      if (held === undefined || !isHeld(held)) return false;
+      pending.delete(sequence);
+      await note(changes, { ended: [sequence] });
+      return true;
+    });
+  }
+
+  /** Numbers the calls whose time is over as the next mutations of the seat's client; which a clock that was put back can't keep from it. */
+  async release(seat, now) {
+    const due = async ({ pending }) => (await answered(pending.getAll())).filter(({ until }) => until <= now || until > now + HOLD);
+    if ((await this.#transact("readonly", due)).length === 0) return;
+    await this.#change(async (stores) => {
+      const calls = await due(stores);
+      const ended = calls.map(({ sequence }) => sequence);
+      for (const sequence of ended) stores.pending.delete(sequence);
+      await number(stores, seat, calls);
+      await note(stores.changes, { ended });
+    });
   }
 
   /** The pending mutations that come after this place in their order: as many as one push has. */
   nextPending(sequence) {
     return this.#transact("readonly", async ({ pending }) => {
-      const all = await answered(pending.getAll(IDBKeyRange.lowerBound(sequence, true)));
+      const all = (await answered(pending.getAll(IDBKeyRange.lowerBound(sequence, true)))).filter((mutation) => !isHeld(mutation));
       let length = 0;
       const end = all.findIndex((mutation, at) => (length += JSON.stringify(mutation).length) > PUSH_LENGTH && at > 0);
       return end < 0 ? all : all.slice(0, end);
@@ -237,6 +280,7 @@ export class Store {
       seats.clear();
       const clients = new Map();
       for (const mutation of await answered(pending.getAll())) {
+        if (isHeld(mutation)) continue;
         const client = clients.get(mutation.seat) ?? { clientID: crypto.randomUUID(), lastID: 0 };
         client.lastID += 1;
         clients.set(mutation.seat, client);

@@ -19,13 +19,15 @@ export class Sync {
   /** Whether pokes tell this window when to pull. */
   isPoked = false;
   #store;
+  #seat;
   #told;
   #pause = new Pause();
   #failures = 0;
 
-  /** `told` gets what each round came to, and the mutations that it confirmed. */
-  constructor(store, told) {
+  /** `seat` is this window's; `told` gets what each round came to, and the mutations that it confirmed. */
+  constructor(store, seat, told) {
     this.#store = store;
+    this.#seat = seat;
     this.#told = told;
   }
 
@@ -53,6 +55,8 @@ export class Sync {
   async #round() {
     const session = await this.#store.session();
     if (session === undefined) return { outcome: { kind: "gone" } };
+    // what was held back in a window that was closed meanwhile
+    await this.#store.release(this.#seat, Date.now());
     const pushed = await this.#pushAll(session);
     // what is refused of a push says nothing of a pull, so that what others did is still seen
     const pulled = ["ok", "refused"].includes(pushed.kind) ? await pull(session) : pushed;

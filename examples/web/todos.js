@@ -15,11 +15,13 @@ export class Todos {
   #parts = new Parts(byId("todos"));
   #waiting = new Set();
   #mutate;
+  #hold;
   #announce;
 
-  /** `mutate` takes calls, `announce` what a person who does not see the page should hear. */
-  constructor(mutate, announce) {
+  /** `mutate` takes calls, `hold` one that can be undone, `announce` what a person who does not see the page should hear. */
+  constructor({ mutate, hold }, announce) {
     this.#mutate = mutate;
+    this.#hold = hold;
     this.#announce = announce;
     // one listener for all items, of which there may be thousands
     byId("todos").addEventListener("change", ({ target }) => {
@@ -151,7 +153,8 @@ export class Todos {
     const place = seen.indexOf(item);
     const next = seen[place + 1] ?? seen[place - 1];
     (next?.querySelector(".remove") ?? byId("todo-text")).focus();
-    this.#mutate({ name: "deleteTodo", args: item.dataset.id });
+    const { id, text: label } = this.#find(item.dataset.id);
+    this.#hold({ name: "deleteTodo", args: id, label });
   }
 
   #move(seenFrom, seenTo) {

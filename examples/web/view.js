@@ -84,7 +84,12 @@ export class View {
   }
 
   get #waiting() {
-    return [...this.#pending.values(), ...this.#attempts.flatMap(({ calls }) => calls)];
+    return [...this.#pending.values(), ...this.#attempts.flatMap(({ calls }) => calls)].filter(({ until }) => until === undefined);
+  }
+
+  /** What is held back, and can be undone. */
+  get held() {
+    return [...this.#pending.values()].filter(({ until }) => until !== undefined);
   }
 
   /** The lists that the user sees, by their names. */

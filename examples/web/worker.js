@@ -5,7 +5,8 @@
 const CACHE = "rv-lists";
 const FILES = [
   "./", "app.js", "elements.js", "found.js", "icon.svg", "mutators.js", "page.js", "parts.js", "pause.js", "place.js", "pokes.js", "protocol.js", "reorder.js",
-  "rows.js", "seat.js", "sharing.js", "state.js", "store.js", "style.css", "sync.js", "todos.js", "view.js",
+  "rows.js", "seat.js", "sharing.js", "state.js", "store.js", "style.css", "sync.js", "todos.js", "undo.js",
+  "view.js",
 ];
 
 async function fetched(request) {
