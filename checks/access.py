@@ -14,7 +14,7 @@ const isSeen = (element) => element.checkVisibility({ visibilityProperty: true, 
 const told = (element) => `${element.localName}${element.id ? "#" + element.id : ""}${element.className ? "." + element.className : ""}`;
 const textsOf = (ids) => ids.split(" ").map((id) => document.getElementById(id)?.textContent ?? "").join(" ");
 const nameOf = (element) => (element.getAttribute("aria-label") || textsOf(element.getAttribute("aria-labelledby") ?? "")
-  || [...(element.labels ?? [])].map((label) => label.textContent).join(" ") || (element.matches("input") ? "" : element.innerText) || "").trim();
+  || [...(element.labels ?? [])].map((label) => label.textContent).join(" ") || element.textContent || "").trim();
 for (const element of document.querySelectorAll("a, button, input, select, textarea, [tabindex], progress, dialog[open], nav, [role=group]")) {
   if (isSeen(element) && nameOf(element) === "" && !element.matches("dialog")) found.push(`no name: ${told(element)}`);
 }
@@ -129,7 +129,7 @@ def tab_to(window, wanted, most=60, back=False):
 def check_keys(ann):
     """A todo is made, completed, moved, deleted and undone by keys alone."""
     window = ann.window
-    window.run("document.getElementById('todos').scrollIntoView(); document.activeElement.blur()")
+    window.run("document.querySelector('.brand').focus()")
     tab_to(window, "list-name")
     window.press(*"Keys", "Enter")
     ann.waits("the list Keys", "return document.getElementById('list-title').textContent === 'Keys'")
