@@ -333,7 +333,7 @@ def check_kills(ann, bob, site, kills=5, each=60):
 
 
 def check_missed(ann, first, second, many=250):
-    """A tab that is told nothing of what another does shows it as it comes to the front: by the changes that are kept, or by all rows."""
+    """A tab that is told nothing of what another does shows it all the same, as it comes to the front or after its next round."""
     for handle in (first, second):
         ann.window.go_to(handle)
         ann.set_network(False)
@@ -354,7 +354,7 @@ def check_missed(ann, first, second, many=250):
         ann.window.go_to(handle)
         ann.set_network(True)
         ann.in_step()
-    print(f"a tab that was told nothing: it showed what was done meanwhile as it came to the front, {many} todos after {took * 1000:.0f} ms")
+    print(f"a tab that was told nothing: it showed what was done meanwhile all the same, {many} todos after {took * 1000:.0f} ms")
 
 
 def check_tabs(ann, bob):
