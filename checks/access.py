@@ -1,8 +1,12 @@
 """What a page owes to those who use it by keys, by a screen reader, with large text or on a small screen, for checks/page.py."""
+import time
+
 from links import same, wrong
 
 # In CSS pixels: the narrowest width at which nothing is to be cut; which is also a window of 640 with text of 200 percent.
 NARROW = 320
+# After so many seconds a window that was made narrow is laid out.
+SETTLED = 3
 # What a text's contrast is at least, and that of a large one.
 CONTRAST, LARGE = 4.5, 3
 
@@ -107,7 +111,11 @@ def fits(person, what):
     person.window.devtools("Emulation.setDeviceMetricsOverride", width=NARROW, height=640, deviceScaleFactor=1, mobile=True)
     for size in ("100%", "200%"):
         person.window.run("document.documentElement.style.fontSize = arguments[0]", size)
-        same(f"what stands out of a window of {NARROW} pixels with text of {size}, of {what}", [], person.window.run(TOO_WIDE, NARROW))
+        # parts of a long list are laid out anew only where they come into sight, with the next frame
+        end = time.monotonic() + SETTLED
+        while (wide := person.window.run(TOO_WIDE, NARROW)) and time.monotonic() < end:
+            time.sleep(0.1)
+        same(f"what stands out of a window of {NARROW} pixels with text of {size}, of {what}", [], wide)
     person.window.run("document.documentElement.style.fontSize = ''")
     person.window.devtools("Emulation.clearDeviceMetricsOverride")
 
