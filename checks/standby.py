@@ -213,7 +213,9 @@ def check_busy(program, folder, chance):
     leader = checks.started()
     for client in checks.clients:
         client.start()
-    time.sleep(2)
+    # enough for all that is asked of it, and few enough for the model, on a fast machine too
+    while sum(client.pushed for client in checks.clients) < 30 * workers.CLIENTS:
+        time.sleep(0.01)
     to = folder / "copy.db"
     cookies = [client.cookie for client in checks.clients]
     copied(checks, leader, to)
