@@ -119,7 +119,7 @@ def leave_by_reset(link):
 
 
 def leave_after_words(link):
-    """What the client has sent stands before its end, so that it has left is only seen where a poke can't be sent."""
+    """What the client has sent stands before its end."""
     link.send(PING, b"hello")
     time.sleep(QUIET)
     link.stream.close()
@@ -132,7 +132,7 @@ def check_leaving(program):
     """After a client has left, the next push that would poke it frees its job, and the next client is served that still waits."""
     server = Server(program, pokes=1, connections=20)
     server.add_list("ann", "bob")
-    for leave, pushes in (*((leave, 1) for leave in LEAVES), (leave_after_words, 2)):
+    for leave in (*LEAVES, leave_after_words):
         link = server.link("bob")
         link.poked("a link as it begins")
         gone = [Link(server.poke_port) for _ in LEAVES]
@@ -141,24 +141,22 @@ def check_leaving(program):
         waiting = Link(server.poke_port)
         waiting.waits("a client where no job is free")
         leave(link)
-        for number in range(pushes):
-            server.add_todo("ann", f"{leave.__name__} {number}")
-            time.sleep(QUIET * (pushes - 1))
+        server.add_todo("ann", leave.__name__)
         waiting.greeted(SOON).send(TEXT, b"k-ann").poked(f"the client that waited, after {leave.__name__}")
         if link.stream.fileno() >= 0:
             link.ended(f"the link of a client after {leave.__name__}")
         reset(waiting.stream)
         server.push("ann", "paint", None)
-    server.ends(12)
-    print("leaving: after a close, an end of the stream and a reset one push freed the one job, for the first client that still waited; "
-          "after a ping and an end, two did")
+    server.ends(11)
+    print("leaving: after a close, an end of the stream, a reset, and a ping and an end, one push freed the one job, for the first client that "
+          "still waited")
 
 
 def check_quiet(program):
     """Clients of a user whom nothing concerns come and go: whatever anybody does frees the jobs of those that have left."""
     server = Server(program, connections=20)
     acts = 0
-    for leave in (*LEAVES, *LEAVES):
+    for leave in (*LEAVES, leave_after_words):
         gone = [server.link("cat") for _ in range(4)]
         for link in gone:
             link.quiet("a link of a user whom nothing concerns", 0.02)
@@ -172,7 +170,7 @@ def check_quiet(program):
         server.push("bob", "paint", None)
         acts += 1
     server.ends(acts)
-    print(f"quiet: {4 * len(LEAVES) * 2} clients of a user whom nothing concerns had left, and one act of somebody else freed their jobs")
+    print(f"quiet: {2 * acts} clients of a user whom nothing concerns had left, and one act of somebody else freed their jobs")
 
 
 def check_sixteen(program):
@@ -517,9 +515,33 @@ def check_silence(program):
     print(f"silence: two clients lost their links after {took:.1f} s; one more held up the program's end for {time.monotonic() - start:.1f} s")
 
 
+def check_reading(program):
+    """What a client sends is read at each ring: a ping is answered, other messages mean nothing, and one that is too long ends its link."""
+    server = Server(program, connections=4)
+    ann, bob = server.link("ann"), server.link("bob")
+    for link in (ann, bob):
+        link.quiet("a link as it begins")
+    ann.send(PING, b"hello").send(TEXT, b"k-bob").send(BINARY, b"x").send(PONG, b"")
+    bob.send(TEXT, b"y" * 4097)
+    for link in (ann, bob):
+        link.quiet("a link where nothing has rung")
+    server.push("ann", "paint", None)
+    same("the first frame after a ring", {POKE, (PONG, b"hello")}, {ann.frame(SOON), ann.frame(SOON)})
+    ann.quiet("a link after its poke and its pong")
+    bob.ended("the link of a client that sent a message that is too long")
+    for _ in range(200):
+        ann.send(TEXT, b"z")
+    for _ in range(4):
+        server.push("ann", "paint", None)
+        ann.poked("a link after many messages")
+    server.ends(5)
+    print("reading: a ping was answered at the next ring, a message of 4,097 bytes ended its link, and 200 others meant nothing")
+
+
 def check_minute(program):
-    """Where nobody does anything a client that has left is found within a minute."""
-    server = Server(program, pokes=len(LEAVES), connections=2)
+    """Where nobody does anything a client that is there is pinged after a minute, and one that has left is found then."""
+    server = Server(program, pokes=len(LEAVES) + 1, connections=2)
+    there = server.link("cat")
     gone = [server.link("cat") for _ in LEAVES]
     for leave, link in zip(LEAVES, gone):
         link.quiet("a link of a user whom nothing concerns")
@@ -533,15 +555,22 @@ def check_minute(program):
     took = time.monotonic() - start
     for link in waiting:
         link.send(TEXT, b"k-bob").quiet("a link in the place of one that left")
-    server.ends(0)
-    print(f"minute: {len(LEAVES)} clients that had left were found after {took:.1f} s in which nothing happened")
+    same("what a client that is there is sent", (PING, b""), there.frame(2 * SOON))
+    there.send(PONG, b"")
+    there.send(CLOSE, NORMAL)
+    last = Link(server.poke_port)
+    last.waits("a client where all jobs are held")
+    server.push("ann", "paint", None)
+    last.greeted(SOON).send(TEXT, b"k-bob")
+    server.ends(1)
+    print(f"minute: {len(LEAVES)} clients that had left were found after {took:.1f} s in which nothing happened, and one that was there was pinged")
 
 
 def main():
     words = [word for word in sys.argv[1:] if word != "--slow"]
     if len(words) != 1:
         sys.exit("usage: checks/pokes.py PROGRAM [--slow]")
-    checks = [check_sharing, check_extents, check_denied, check_idle, check_aborts, check_leaving, check_quiet, check_sixteen, check_crossing,
+    checks = [check_sharing, check_extents, check_denied, check_idle, check_aborts, check_leaving, check_quiet, check_reading, check_sixteen, check_crossing,
               check_order, check_end, check_limit, check_many]
     for check in checks + [check_silence, check_minute] * ("--slow" in sys.argv):
         check(words[0])

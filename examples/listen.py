@@ -7,11 +7,14 @@ import sys
 import time
 
 
-def frame(payload):
-    """A text frame of a client (RFC 6455, section 5.2), whose bytes are masked."""
+TEXT, CLOSE, PING, PONG = 0x81, 0x88, 0x89, 0x8A
+
+
+def frame(kind, payload):
+    """A frame of a client (RFC 6455, section 5.2), whose bytes are masked."""
     mask = os.urandom(4)
     masked = bytes(byte ^ mask[at % 4] for at, byte in enumerate(payload))
-    return bytes([0x81, 0x80 | len(payload)]) + mask + masked
+    return bytes([kind, 0x80 | len(payload)]) + mask + masked
 
 
 def opened(port):
@@ -31,15 +34,18 @@ def opened(port):
 
 
 def main():
-    """Sends the key, and prints what comes."""
+    """Sends the key, prints what comes, and answers pings."""
     port, key = int(sys.argv[1]), sys.argv[2]
     link, stream = opened(port)
-    link.sendall(frame(key.encode()))
+    link.sendall(frame(TEXT, key.encode()))
     while len(head := stream.read(2)) == 2:
         payload = stream.read(head[1])
-        if head[0] == 0x88:
+        if head[0] == CLOSE:
             sys.exit(f"closed with {struct.unpack('>H', payload[:2])[0]}")
-        print(time.strftime("%H:%M:%S"), payload.decode(), flush=True)
+        if head[0] == PING:
+            link.sendall(frame(PONG, payload))
+        else:
+            print(time.strftime("%H:%M:%S"), payload.decode(), flush=True)
 
 
 main()

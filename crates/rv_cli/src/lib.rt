@@ -3,7 +3,8 @@
 //! `feed STORE` reads request lines and writes answer lines. Its theorem is the clause of [`run`]: what is written are the answers of
 //! a run over the lines that were read, from the book that the store kept, and the store keeps the book that the run leaves
 //! (`specs/Headline.antt`; what is said of runs over lines, whoever takes them, stands in `specs/LineRuns.antt`). `retire STORE GROUP`
-//! and `close-book STORE` are one answer so, and `lists`, `activity`, `check` and `export STORE USER` are reports of that book.
+//! and `close-book STORE` are one answer so, `lists`, `activity`, `check` and `export STORE USER` are reports of that book, and
+//! `ship STORE` writes it as lines.
 //! `import STORE USER NAME` reads CSV, whose records are turns at that book (`specs/Importing.antt`). `serve STORE` answers HTTP from
 //! it by several workers, and pokes whom an act concerns (`specs/Serving.antt`). `follow --port PORT` takes the lines of a book from one
 //! connection and answers its pulls (`specs/FollowPromise.antt`). `make SEED N` is the summary of a run over a fresh

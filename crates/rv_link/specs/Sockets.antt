@@ -54,6 +54,11 @@ abbrev pub OpensWith : {S : Type 0} → (S → Option (List ℕ)) → Line S →
 OpensWith {S} remaining (Fresh stream) (Open new) message = (socket : Socket S) × IsGreeted socket × ReadsFirst remaining socket new message
 OpensWith remaining old new message = ⊥
 
+-- the handshake was done, and the socket stands
+abbrev pub IsOpen : {S : Type 0} → Line S → Type 0
+IsOpen (Open socket) = Unit {0}
+IsOpen line = ⊥
+
 -- A step of the protocol was made on an open line, and all that waited was written.
 abbrev pub WritesStep : {S : Type 0} → (S → Option (List ℕ)) → (Connection → Result Effect FrameError) → Line S → Line S → Type 0
 WritesStep contents step (Open old) (Open new) = Writes contents old new (step old.conn) × (new.output ≡ [])

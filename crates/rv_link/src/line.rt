@@ -3,14 +3,14 @@ ghost use Rattle.std.specs.Prelude.{◌≡◌, [], codes, Err, IfOk, IsErrOf, On
 ghost use Rattle.rv_base.specs.declared.fault.Fault.TheVariants as fault;
 ghost use Rattle.rv_poke.specs.declared.first.First.TheVariants.{Other, Text};
 ghost use Rattle.tungstenite.specs.Connection.{close_step, write_step};
-ghost use Rattle.tungstenite.specs.Content.{text};
+ghost use Rattle.tungstenite.specs.Content.{ping, text};
 ghost use Rattle.websocket.specs.CloseCode.{close_code_of};
-ghost use Rattle.rv_link.specs.Sockets.{FailsToOpen, FailsToRead, IsBreach, IsGreeted, IsNoText, OpensWith, ReadsFirst, WritesStep};
+ghost use Rattle.rv_link.specs.Sockets.{FailsToOpen, FailsToRead, IsBreach, IsGreeted, IsNoText, IsOpen, OpensWith, ReadsFirst, WritesStep};
 
 use rv_base::{Bytes, Failed, Fault};
 use rv_poke::First;
 use std::alloc::Global;
-use std::io::{Read, Write};
+use std::io::{self, Read, Write};
 use std::mem;
 use tungstenite::handshake::server;
 use tungstenite::{
@@ -20,6 +20,9 @@ use tungstenite::{
 
 // The most bytes of a client's message.
 const MOST_BYTES: usize = 4096;
+
+// How many messages are read at once at most, where the client is looked for.
+const MOST_MESSAGES: usize = 64;
 
 // How many bytes one read asks for, and at how many the output is written.
 const BUFFER_BYTES: usize = 512;
@@ -126,6 +129,40 @@ impl<S: Read + Write + Drop> Line<S> {
             Ok(()) => Ok(()),
             Err(_) => Err(Failed),
         }
+    }
+
+    /// Sends a ping without a payload.
+    pub(crate) fn ping(&mut self) -> Result<(), Failed>
+        ensures { OnOk result (WritesStep S.contents (λ conn. write_step conn (ping [])) self.old self.new) }
+    {
+        let Line::Open(socket) = self else {
+            return Err(Failed);
+        };
+        match socket.send(Message::Ping(tungstenite::Bytes::new())) {
+            Ok(()) => Ok(()),
+            Err(_) => Err(Failed),
+        }
+    }
+
+    /// Reads what the client has sent, as far as its stream gives it at once, and lets go of it. It fails where that is a close or the
+    /// end of the stream, or breaks the protocol, where reading fails, and where the line isn't open.
+    pub(crate) fn find(&mut self) -> Result<(), Failed>
+        ensures { OnOk result (IsOpen self.new) }
+    {
+        let Line::Open(socket) = self else {
+            return Err(Failed);
+        };
+        for _message in 0..MOST_MESSAGES {
+            match socket.read() {
+                Ok(Message::Close(_)) => return Err(Failed),
+                Ok(_) => {}
+                Err(Error::Io(error)) if error.kind() == io::ErrorKind::WouldBlock => {
+                    return Ok(());
+                }
+                Err(_) => return Err(Failed),
+            }
+        }
+        Ok(())
     }
 
     /// Sends a close with a status code and no reason.

@@ -15,9 +15,10 @@ use std::io::{Read, Write};
 /// after it, and reads one message. A text of at most 4,096 bytes is [`First::Text`]; a longer message, a text that is no UTF-8, a
 /// binary message, a ping, a pong and a close are [`First::Other`], so a client that pings before it sends its key is denied. Any
 /// other breach of the protocol is [`Fault::Failed`], and so are a handshake that fails, the end of the stream, a read that
-/// fails or would block, and a second call. A head that asks for no upgrade is not answered. From then on nothing is read: a ping has
-/// no answer, and that the client has gone is told where a poke can't be sent. [`find`](PokeLink::find) never fails: of a stream that may
-/// be any there is no look without waiting.
+/// fails or would block, and a second call. A head that asks for no upgrade is not answered. From then on what the client sends is read
+/// where it is looked for, by [`find`](PokeLink::find), up to 64 messages at once, and let go of: so a ping is answered as the next is
+/// looked for. It has left where it sent a close, where its stream ended, or where it broke the protocol, a message that is too long
+/// included. So that a look doesn't wait, the stream is not to block then.
 ///
 /// A poke or a close that can't be sent for want of memory is a fault, and so is one that was written and could not be flushed. A close
 /// goes out after the pong that a first ping asks for; where the client has closed the link first, the answer to its close goes
@@ -26,7 +27,7 @@ use std::io::{Read, Write};
 #[derive(Drop)]
 pub struct SocketLink<S> {
     line: Line<S>,
-    /// How often its client was looked for. It stands still at 2^64 - 1.
+    /// How often its client was looked for and was there. It stands still at 2^64 - 1.
     pub found: u64,
     /// How often a call has failed. It stands still at 2^64 - 1.
     pub faults: u64,
@@ -58,14 +59,14 @@ impl<S> SocketLink<S> {
 }
 
 impl<S: Read + Write + Drop> PokeLink for SocketLink<S> {
-    ghost use Rattle.std.specs.Prelude.{[], Some, codes, false, is_err, IfOk, IsErrOf, OnOk};
-    ghost use Rattle.rv_poke.specs.declared.sent.Sent.TheVariants.{Close, Poke};
+    ghost use Rattle.std.specs.Prelude.{[], Some, codes, IfOk, IsErrOf, OnOk};
+    ghost use Rattle.rv_poke.specs.declared.sent.Sent.TheVariants.{Close, Ping, Poke};
     ghost use Rattle.rv_poke.specs.Links.{Finds, Says, Takes};
     ghost use Rattle.tungstenite.specs.Connection.{close_step, write_step};
-    ghost use Rattle.tungstenite.specs.Content.{text};
+    ghost use Rattle.tungstenite.specs.Content.{ping, text};
     ghost use Rattle.websocket.specs.CloseCode.{close_code_of};
     ghost use Rattle.rv_base.specs.declared.fault.Fault.TheVariants as fault;
-    ghost use Rattle.rv_link.specs.Sockets.{FailsToOpen, OpensWith, WritesStep, link_state};
+    ghost use Rattle.rv_link.specs.Sockets.{FailsToOpen, IsOpen, OpensWith, WritesStep, link_state};
 
     ghost state = { link_state };
 
@@ -102,12 +103,26 @@ impl<S: Read + Write + Drop> PokeLink for SocketLink<S> {
     fn find(&mut self) -> Result<(), Failed>
         ensures finds { Finds (link_state self.old) (link_state self.new) result }
 
-        // The client counts as there, and nothing is written or read.
-        ensures there { is_err result ≡ false }
-        ensures line { self.new.line ≡ self.old.line }
+        // A client is there only on a link whose handshake was done.
+        ensures open { OnOk result (IsOpen self.new.line) }
     {
-        self.found = self.found.saturating_add(1);
-        Ok(())
+        match self.line.find() {
+            Ok(()) => {
+                self.found = self.found.saturating_add(1);
+                Ok(())
+            }
+            Err(Failed) => self.told(Err(Failed)),
+        }
+    }
+
+    fn ping(&mut self) -> Result<(), Failed>
+        ensures says { Says Ping (link_state self.old) (link_state self.new) result }
+
+        // The protocol's step of a ping without a payload was made and written.
+        ensures writes { OnOk result (WritesStep S.contents (λ conn. write_step conn (ping [])) self.old.line self.new.line) }
+    {
+        let sent = self.line.ping();
+        self.told(sent)
     }
 
     fn close(&mut self, code: u16) -> Result<(), Failed>

@@ -16,13 +16,10 @@ pub const KEY_SECONDS: u64 = 60;
 /// How long one write of a poke or a close waits, in seconds.
 const WRITE_SECONDS: u64 = 30;
 
-// The first byte of a client's close (RFC 6455, section 5.2): a last frame, with the opcode 8.
-const CLOSE: u8 = 0x88;
-
 /// A link over TCP, which speaks WebSocket as [`SocketLink`] says. Neither what comes nor what is sent is told.
 ///
-/// Before it sends a poke, and where it is asked to, it looks, without waiting, whether the client has left: it has where its stream has
-/// ended, or the next that it sent is a close. Then the call fails. Nothing else that the client sends is looked at.
+/// Before it sends a poke or a ping, and where it is asked to, it looks, without waiting, whether the client has left, by what that has
+/// sent ([`SocketLink`] says how). Then the call fails.
 #[derive(Drop)]
 pub struct TcpLink {
     // The same stream as that of the link.
@@ -32,19 +29,6 @@ pub struct TcpLink {
     pub found: u64,
     /// How often a call has failed. It stands still at 2^64 - 1.
     pub faults: u64,
-}
-
-// Whether the client of a stream has left, as far as it can be seen without waiting.
-fn has_left(stream: &TcpStream) -> io::Result<bool> {
-    let mut next = [0; 1];
-    stream.set_nonblocking(true)?;
-    let peeked = stream.peek(&mut next);
-    stream.set_nonblocking(false)?;
-    Ok(match peeked {
-        Ok(0) => true,
-        Ok(_) => next[0] == CLOSE,
-        Err(error) => error.kind() != io::ErrorKind::WouldBlock,
-    })
 }
 
 impl TcpLink {
@@ -60,6 +44,20 @@ impl TcpLink {
             found: 0,
             faults: 0,
         })
+    }
+
+    // Looks for the client without waiting.
+    fn look(&mut self) -> Result<(), Failed>
+        ensures others { (self.new.found ≡ self.old.found) × (self.new.faults ≡ self.old.faults) }
+    {
+        if self.stream.set_nonblocking(true).is_err() {
+            return Err(Failed);
+        }
+        let found = self.link.find();
+        if self.stream.set_nonblocking(false).is_err() {
+            return Err(Failed);
+        }
+        found
     }
 
     // Counts a fault where a call has failed.
@@ -78,7 +76,7 @@ impl TcpLink {
 impl PokeLink for TcpLink {
     ghost use Rattle.std.specs.Prelude.{None};
     ghost use Rattle.rv_poke.specs.Links.{Finds, Says, Takes};
-    ghost use Rattle.rv_poke.specs.declared.sent.Sent.TheVariants.{Close, Poke};
+    ghost use Rattle.rv_poke.specs.declared.sent.Sent.TheVariants.{Close, Ping, Poke};
 
     // Nothing is told of a real client.
     ghost state = { λ s. record { coming = None; sent = None; found = s.found; faults = s.faults } };
@@ -95,21 +93,29 @@ impl PokeLink for TcpLink {
     }
 
     fn send_poke(&mut self) -> Result<(), Failed> {
-        let sent = match has_left(&self.stream) {
-            Ok(false) => self.link.send_poke(),
-            _ => Err(Failed),
+        let sent = match self.look() {
+            Ok(()) => self.link.send_poke(),
+            Err(Failed) => Err(Failed),
         };
         self.told(sent)
     }
 
     fn find(&mut self) -> Result<(), Failed> {
-        match has_left(&self.stream) {
-            Ok(false) => {
+        match self.look() {
+            Ok(()) => {
                 self.found = self.found.saturating_add(1);
                 Ok(())
             }
-            _ => self.told(Err(Failed)),
+            Err(Failed) => self.told(Err(Failed)),
         }
+    }
+
+    fn ping(&mut self) -> Result<(), Failed> {
+        let sent = match self.look() {
+            Ok(()) => self.link.ping(),
+            Err(Failed) => Err(Failed),
+        };
+        self.told(sent)
     }
 
     fn close(&mut self, code: u16) -> Result<(), Failed> {

@@ -1,84 +1,92 @@
--- How far a session has come, and how one look more goes on or ends it.
-use Rattle.std.proofs.Common.{◌≡◌, ℕ, suc, ◌+◌, ◌<◌, ◌≤◌, max, replicate, List, [], ◌∷◌, ◌++◌, length, inl, refl, sym, ap, ◌∙◌, subst, arith, add-one, length-append}
+-- How far a session has come, and how one deed more goes on or ends it.
+use Rattle.std.proofs.Common.{◌≡◌, ℕ, ◌+◌, ◌<◌, ◌≤◌, List, [], ◌∷◌, ◌++◌, length, inl, refl, sym, ap, ◌∙◌, subst, arith, length-append, append-nil}
 use Rattle.rv_base.specs.Outside.{counted}
 use Rattle.rv_poke.specs.declared.poke_end.PokeEnd.TheVariants.{Done, LinkFault}
-use Rattle.rv_poke.specs.declared.sent.Sent.TheVariants.{Poke}
-use Rattle.rv_poke.specs.declared.waited.Waited.TheVariants.{Over, Rung}
+use Rattle.rv_poke.specs.declared.waited.Waited.TheVariants.{Over}
 use Rattle.rv_poke.specs.Bells.{BellState, HasWaited, counted_by}
 use Rattle.rv_poke.specs.Links.{LinkState, Sends}
-use Rattle.rv_poke.specs.Looking.{Told, Lost}
-use Rattle.rv_poke.specs.Sessions.{poke_at, pokes_of, quiet_at, quiet_of, SessionState, session_state, Looks, Watched, Watches}
-use Rattle.rv_poke.proofs.Pokes.{told_after, told_more, pokes_more, quiet_more, found_more, at_most_one, poke_at-max, sends_more, sends_silent, sends_none}
+use Rattle.rv_poke.specs.Looking.{Does, Lost, Went, heard, rise_of}
+use Rattle.rv_poke.specs.Sessions.{Deed, look, ping, marks_of, poke_at, pokes_of, quiet_at, quiet_of, sent_at, sent_by, told_by, SessionState, session_state, Looks, Watched, Watches}
+use Rattle.rv_poke.proofs.Pokes.{told_after, told_more, sent_more, pokes_more, quiet_more, found_more, at_most_one, rise-told_by, sends_then, sends_silent, sends_none, begun_more, rungs_more, quiets_more, overs_same}
 
--- one look more is one poke more at the most
-pub one_more : (before : List ℕ) (mark pokes : ℕ) → pokes_of 0 before < 10000 → pokes ≡ pokes_of 0 (before ++ mark ∷ []) → pokes ≤ 10000
-one_more before mark pokes few same = let more = pokes_more 0 before mark in let one = at_most_one (told_after 0 before) mark in omega arith
-
--- a ring more
-rung_more : (before : List ℕ) (mark n mid new : ℕ) → mid ≡ counted_by (length before) n → new ≡ counted mid → new ≡ counted_by (length (before ++ mark ∷ [])) n
-rung_more before mark n mid new rung is = let len : suc (length before) ≡ length (before ++ mark ∷ []) = sym (length-append before (mark ∷ []) ∙ add-one _) in is ∙ ap counted rung ∙ ap (λ k. counted_by k n) len
+-- one deed more is one poke more at the most
+pub one_more : (before : List Deed) (last : Deed) (pokes : ℕ) → pokes_of 0 before < 10000 → pokes ≡ pokes_of 0 (before ++ last ∷ []) → pokes ≤ 10000
+one_more before last pokes few same = let more = pokes_more 0 before last in let one = at_most_one (told_after 0 before) last in omega arith
 
 module _ {S : Type 0} (marks : S → List ℕ → ℕ → S → Type 0) where
-  pub looks_more : (user : List ℕ) (old mid new : S) (told : List ℕ) (mark : ℕ) → Looks marks user old told mid → marks mid user mark new → Looks marks user old (told ++ mark ∷ []) new
-  looks_more user old mid new [] mark chain one = (new, subst (λ (s : S). marks s user mark new) chain one, refl)
-  looks_more user old mid new (m ∷ ms) mark chain one = (chain.0, chain.1, looks_more user chain.0 mid new ms mark chain.2 one)
+  pub looks_more : (user : List ℕ) (old mid new : S) (deeds : List Deed) (deed : Deed) → Looks marks user old (marks_of deeds) mid → Does marks user deed mid new → Looks marks user old (marks_of (deeds ++ deed ∷ [])) new
+  looks_more user old mid new [] (look mark) chain one = (new, subst (λ (s : S). marks s user mark new) chain one, refl)
+  looks_more user old mid new [] ping chain one = one ∙ chain
+  looks_more user old mid new (look m ∷ ds) deed chain one = (chain.0, chain.1, looks_more user chain.0 mid new ds deed chain.2 one)
+  looks_more user old mid new (ping ∷ ds) deed chain one = looks_more user old mid new ds deed chain one
 
-  -- A session of a user has come so far: the looks that were made, what is told now, the pokes that were sent, the waits.
+  -- A session of a user has come so far: the deeds that were done, what is told now, the pokes that were sent, the waits.
   pub record Going (user : List ℕ) (old new : SessionState S) (told pokes waits : ℕ) : Type 0 where
-    pub before : List ℕ
-    pub mark : ℕ
-    pub watched : Watched marks user old new before mark (before ++ mark ∷ [])
-    pub is_told : told ≡ told_after 0 (before ++ mark ∷ [])
-    pub are_pokes : pokes ≡ pokes_of 0 (before ++ mark ∷ [])
+    pub before : List Deed
+    pub last : Deed
+    pub watched : Watched marks user old new before last (before ++ last ∷ [])
+    pub is_told : told ≡ told_after 0 (before ++ last ∷ [])
+    pub are_pokes : pokes ≡ pokes_of 0 (before ++ last ∷ [])
     pub has_waited : length before ≡ waits
     pub not_over : new.bell.overs ≡ old.bell.overs
     pub untaken : new.link.coming ≡ old.link.coming
     pub still : new.link.faults ≡ old.link.faults
 
   -- after the first look
-  pub begins : (user : List ℕ) (teller teller' : S) (link link' : LinkState) (bell : BellState) (now pokes : ℕ) → Told marks user 0 teller teller' link link' now → pokes ≡ poke_at 0 now
+  pub begins : (user : List ℕ) (teller teller' : S) (link link' : LinkState) (bell : BellState) (now pokes mark : ℕ) → Went marks user 0 teller teller' link link' (look mark) now → pokes ≡ rise_of 0 now
       → Going user (session_state teller link bell) (session_state teller' link' bell) now pokes 0
-  begins user teller teller' link link' bell now pokes look is =
-      let same : pokes ≡ poke_at 0 look.mark = is ∙ ap (poke_at 0) look.next ∙ poke_at-max 0 look.mark in record {
+  begins user teller teller' link link' bell now pokes mark went is =
+      let same : pokes ≡ poke_at 0 (look mark) = is ∙ ap (rise_of 0) went.next ∙ rise-told_by 0 (look mark) in record {
         before = [];
-        mark = look.mark;
+        last = look mark;
         watched = record {
-          looks = (teller', look.look, refl);
+          begun = tt;
+          looks = (teller', went.does, refl);
           rung = refl;
+          silent = refl;
           few = omega arith;
           waits = omega arith;
-          said = let all : poke_at 0 look.mark ≡ pokes_of 0 (look.mark ∷ []) = omega arith in subst (λ n. Sends link.sent (replicate n Poke) link'.sent) all look.said;
-          found = let all : quiet_at 0 look.mark ≡ quiet_of 0 (look.mark ∷ []) = omega arith in look.found ∙ ap (λ n. counted_by n link.found) all;
+          said = subst (λ l. Sends link.sent l link'.sent) (sym (append-nil (sent_at 0 (look mark)))) went.said;
+          found = let all : quiet_at 0 (look mark) ≡ quiet_of 0 (look mark ∷ []) = omega arith in went.found ∙ ap (λ n. counted_by n link.found) all;
         };
-        is_told = look.next;
+        is_told = went.next;
         are_pokes = same ∙ omega arith;
         has_waited = refl;
         not_over = refl;
-        untaken = look.untaken;
-        still = look.still;
+        untaken = went.untaken;
+        still = went.still;
       }
 
   -- the first look didn't end well
-  pub fails_at_once : (user : List ℕ) (teller teller' : S) (link link' : LinkState) (bell : BellState) → Lost marks user 0 teller teller' link link'
+  pub fails_at_once : (user : List ℕ) (teller teller' : S) (link link' : LinkState) (bell : BellState) (mark : ℕ) → Lost marks user 0 teller teller' link link' (look mark)
       → Watches marks user (session_state teller link bell) (session_state teller' link' bell) LinkFault
-  fails_at_once user teller teller' link link' bell look = (
+  fails_at_once user teller teller' link link' bell mark lost = (
     [],
-    look.mark,
-    record { looks = (teller', look.look, refl); rung = refl; few = omega arith; waits = omega arith; said = sends_none link.sent link'.sent look.idle.silent; found = look.idle.unfound },
+    look mark,
+    record {
+      begun = tt;
+      looks = (teller', lost.does, refl);
+      rung = refl;
+      silent = refl;
+      few = omega arith;
+      waits = omega arith;
+      said = sends_none link.sent link'.sent lost.idle.silent;
+      found = lost.idle.unfound;
+    },
     refl,
   )
 
   module _ (user : List ℕ) (old mid : SessionState S) (told pokes waits : ℕ) (going : Going user old mid told pokes waits) where
-    -- the marks of all looks so far
-    abbrev all : List ℕ
-    all = going.before ++ going.mark ∷ []
+    -- all deeds so far
+    abbrev all : List Deed
+    all = going.before ++ going.last ∷ []
 
     few_pokes : (pokes ≡ 10000 → ⊥) → pokes < 10000
-    few_pokes others = let most = one_more going.before going.mark pokes going.watched.few going.are_pokes in omega arith
+    few_pokes others = let most = one_more going.before going.last pokes going.watched.few going.are_pokes in omega arith
 
-    -- there is room for the poke of one look more
-    pub few_enough : (now more : ℕ) → more ≡ poke_at told now → pokes + more ≤ 10001
-    few_enough now more is = let most = one_more going.before going.mark pokes going.watched.few going.are_pokes in let one = at_most_one told now in omega (arith, is)
+    -- there is room for the poke of one deed more
+    pub few_enough : (teller : S) (link : LinkState) (now more : ℕ) (deed : Deed) → Went marks user told mid.teller teller mid.link link deed now → more ≡ rise_of told now → pokes + more ≤ 10001
+    few_enough teller link now more deed went is = let most = one_more going.before going.last pokes going.watched.few going.are_pokes in let one = at_most_one told deed in let same = is ∙ ap (rise_of told) went.next ∙ rise-told_by told deed in omega arith
 
     -- all is over
     pub stops : (bell : BellState) → (pokes ≡ 10000 → ⊥) → waits < 1000000 → HasWaited mid.bell bell Over
@@ -86,48 +94,50 @@ module _ {S : Type 0} (marks : S → List ℕ → ℕ → S → Type 0) where
     stops bell others below waited =
         let w = going.watched in (
           going.before,
-          going.mark,
+          going.last,
           going.are_pokes,
-          record { looks = w.looks; rung = waited.0 ∙ w.rung; few = w.few; waits = w.waits; said = w.said; found = w.found },
-          inl (waited.1 ∙ ap counted going.not_over, few_pokes others, omega (arith, going.has_waited)),
+          record { begun = w.begun; looks = w.looks; rung = waited.0 ∙ w.rung; silent = waited.1 ∙ w.silent; few = w.few; waits = w.waits; said = w.said; found = w.found },
+          inl (waited.2 ∙ ap counted going.not_over, few_pokes others, omega (arith, going.has_waited)),
         )
 
-    module _ (teller : S) (link : LinkState) (bell : BellState) (others : pokes ≡ 10000 → ⊥) (below : waits < 1000000) (waited : HasWaited mid.bell bell Rung) where
-      after_ring : (mark : ℕ) (well : List ℕ) → marks mid.teller user mark teller → Sends old.link.sent (replicate (pokes_of 0 well) Poke) link.sent → link.found ≡ counted_by (quiet_of 0 well) old.link.found
-          → Watched marks user old (session_state teller link bell) all mark well
-      after_ring mark well look said found = record {
-        looks = looks_more user old.teller mid.teller teller all mark going.watched.looks look;
-        rung = rung_more going.before going.mark old.bell.rungs mid.bell.rungs bell.rungs going.watched.rung waited.0;
+    module _ (teller : S) (link : LinkState) (bell : BellState) (others : pokes ≡ 10000 → ⊥) (below : waits < 1000000) (deed : Deed) (waited : HasWaited mid.bell bell (heard deed)) where
+      after_wait : (well : List Deed) → Does marks user deed mid.teller teller → Sends old.link.sent (sent_by 0 well) link.sent → link.found ≡ counted_by (quiet_of 0 well) old.link.found
+          → Watched marks user old (session_state teller link bell) all deed well
+      after_wait well does said found = record {
+        begun = begun_more all deed going.watched.begun;
+        looks = looks_more user old.teller mid.teller teller all deed going.watched.looks does;
+        rung = rungs_more old.bell mid.bell bell going.before going.last deed going.watched.rung waited;
+        silent = quiets_more old.bell mid.bell bell going.before going.last deed going.watched.silent waited;
         few = subst (λ n. n < 10000) going.are_pokes (few_pokes others);
-        waits = let len = length-append going.before (going.mark ∷ []) in let is = going.has_waited in omega arith;
+        waits = let len = length-append going.before (going.last ∷ []) in let is = going.has_waited in omega arith;
         said = said;
         found = found;
       }
 
-      -- one look more
-      pub goes_on : (now more : ℕ) → Told marks user told mid.teller teller mid.link link now → more ≡ poke_at told now → Going user old (session_state teller link bell) now (pokes + more) (waits + 1)
-      goes_on now more look is =
-          let same : more ≡ poke_at told look.mark = is ∙ ap (poke_at told) look.next ∙ poke_at-max told look.mark in record {
+      -- one deed more
+      pub goes_on : (now more : ℕ) → Went marks user told mid.teller teller mid.link link deed now → more ≡ rise_of told now → Going user old (session_state teller link bell) now (pokes + more) (waits + 1)
+      goes_on now more went is =
+          let same : more ≡ poke_at told deed = is ∙ ap (rise_of told) went.next ∙ rise-told_by told deed in record {
             before = all;
-            mark = look.mark;
-            watched = after_ring look.mark (all ++ look.mark ∷ []) look.look
-                (subst (λ n. Sends old.link.sent (replicate n Poke) link.sent) (ap (λ t. pokes_of 0 all + poke_at t look.mark) going.is_told ∙ sym (pokes_more 0 all look.mark))
-                (sends_more old.link.sent mid.link.sent link.sent (pokes_of 0 all) (poke_at told look.mark) going.watched.said look.said))
-                (found_more (quiet_of 0 all) (quiet_at told look.mark) old.link.found mid.link.found link.found going.watched.found look.found
-                ∙ ap (λ n. counted_by n old.link.found) (ap (λ t. quiet_of 0 all + quiet_at t look.mark) going.is_told ∙ sym (quiet_more 0 all look.mark)));
-            is_told = look.next ∙ ap (λ t. max t look.mark) going.is_told ∙ sym (told_more 0 all look.mark);
-            are_pokes = ap (λ n. pokes + n) (same ∙ ap (λ t. poke_at t look.mark) going.is_told) ∙ ap (λ n. n + poke_at (told_after 0 all) look.mark) going.are_pokes ∙ sym (pokes_more 0 all look.mark);
-            has_waited = length-append going.before (going.mark ∷ []) ∙ ap (λ n. n + 1) going.has_waited;
-            not_over = waited.1 ∙ going.not_over;
-            untaken = look.untaken ∙ going.untaken;
-            still = look.still ∙ going.still;
+            last = deed;
+            watched = after_wait (all ++ deed ∷ []) went.does
+                (subst (λ l. Sends old.link.sent l link.sent) (ap (λ t. sent_by 0 all ++ sent_at t deed) going.is_told ∙ sym (sent_more 0 all deed))
+                (sends_then old.link.sent mid.link.sent link.sent (sent_by 0 all) (sent_at told deed) going.watched.said went.said))
+                (found_more (quiet_of 0 all) (quiet_at told deed) old.link.found mid.link.found link.found going.watched.found went.found
+                ∙ ap (λ n. counted_by n old.link.found) (ap (λ t. quiet_of 0 all + quiet_at t deed) going.is_told ∙ sym (quiet_more 0 all deed)));
+            is_told = went.next ∙ ap (λ t. told_by t deed) going.is_told ∙ sym (told_more 0 all deed);
+            are_pokes = ap (λ n. pokes + n) (same ∙ ap (λ t. poke_at t deed) going.is_told) ∙ ap (λ n. n + poke_at (told_after 0 all) deed) going.are_pokes ∙ sym (pokes_more 0 all deed);
+            has_waited = length-append going.before (going.last ∷ []) ∙ ap (λ n. n + 1) going.has_waited;
+            not_over = overs_same old.bell mid.bell bell deed waited ∙ going.not_over;
+            untaken = went.untaken ∙ going.untaken;
+            still = went.still ∙ going.still;
           }
 
-      -- a look that didn't end well
-      pub fails : Lost marks user told mid.teller teller mid.link link → Watches marks user old (session_state teller link bell) LinkFault
-      fails look = (
+      -- a deed that didn't end well
+      pub fails : Lost marks user told mid.teller teller mid.link link deed → Watches marks user old (session_state teller link bell) LinkFault
+      fails lost = (
         all,
-        look.mark,
-        after_ring look.mark all look.look (sends_silent old.link.sent mid.link.sent link.sent (replicate (pokes_of 0 all) Poke) going.watched.said look.idle.silent) (look.idle.unfound ∙ going.watched.found),
-        waited.1 ∙ going.not_over,
+        deed,
+        after_wait all lost.does (sends_silent old.link.sent mid.link.sent link.sent (sent_by 0 all) going.watched.said lost.idle.silent) (lost.idle.unfound ∙ going.watched.found),
+        overs_same old.bell mid.bell bell deed waited ∙ going.not_over,
       )

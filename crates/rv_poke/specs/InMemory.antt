@@ -11,4 +11,4 @@ link_state link = record { coming = link.coming; sent = Some link.sent.items; fo
 
 -- a bell in memory has counted its answers
 abbrev pub bell_state : MemoryBell → BellState
-bell_state bell = record { rungs = bell.rungs; overs = bell.overs }
+bell_state bell = record { rungs = bell.rungs; quiets = bell.quiets; overs = bell.overs }

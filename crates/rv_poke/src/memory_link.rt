@@ -72,7 +72,7 @@ impl PokeLink for MemoryLink {
     ghost use Rattle.std.specs.Prelude.{◌≡◌, ◌+◌, ◌<◌, ◌⊎◌, ◌||◌, true, not, is_some, vec_len, vec_capacity, is_err};
     ghost use Rattle.rv_base.specs.InMemory.{fails_next};
     ghost use Rattle.rv_base.specs.Outside.{counted, counted_if};
-    ghost use Rattle.rv_poke.specs.declared.sent.Sent.TheVariants.{Close, Poke};
+    ghost use Rattle.rv_poke.specs.declared.sent.Sent.TheVariants.{Close, Ping, Poke};
     ghost use Rattle.rv_poke.specs.InMemory.{link_state};
     ghost use Rattle.rv_poke.specs.Links.{Finds, Says, Takes};
 
@@ -128,6 +128,19 @@ impl PokeLink for MemoryLink {
         }
         self.found = self.found.saturating_add(1);
         Ok(())
+    }
+
+    fn ping(&mut self) -> Result<(), Failed>
+        ensures says { Says Ping (link_state self.old) (link_state self.new) result }
+
+        // It fails at the calls of its list, and else only where it has to grow.
+        ensures fails { fails_next self.old.calls self.old.failing.items ≡ true → is_err result ≡ true }
+        ensures only { is_err result ≡ true → (fails_next self.old.calls self.old.failing.items ≡ true) ⊎ (vec_capacity self.old.sent < vec_len self.old.sent + 1) }
+
+        // Nothing else changes.
+        ensures after { self.new ≡ record self.old { sent = self.new.sent; calls = counted self.old.calls; faults = counted_if (is_err result) self.old.faults } }
+    {
+        self.say(Sent::Ping)
     }
 
     fn close(&mut self, code: u16) -> Result<(), Failed>

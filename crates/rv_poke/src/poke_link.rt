@@ -1,4 +1,4 @@
-ghost use Rattle.rv_poke.specs.declared.sent.Sent.TheVariants.{Close, Poke};
+ghost use Rattle.rv_poke.specs.declared.sent.Sent.TheVariants.{Close, Ping, Poke};
 ghost use Rattle.rv_poke.specs.Links.{Finds, LinkState, Says, Takes};
 
 use crate::first::First;
@@ -23,6 +23,10 @@ pub trait PokeLink {
     /// Looks for the client, without waiting for it. It fails only where the count of faults rises, and then the client has left.
     fn find(&mut self) -> Result<(), Failed>
         ensures { Finds (state self.old) (state self.new) result };
+
+    /// Sends a ping. It fails only where the count of faults rises, and then nothing was sent.
+    fn ping(&mut self) -> Result<(), Failed>
+        ensures { Says Ping (state self.old) (state self.new) result };
 
     /// Closes the link with a status code. It fails only where the count of faults rises, and then nothing was sent.
     fn close(&mut self, code: u16) -> Result<(), Failed>

@@ -1,7 +1,7 @@
 // A poke session.
 ghost use Rattle.std.specs.Prelude.{◌≡◌, option_map};
-ghost use Rattle.rv_poke.specs.Looking.{Looked};
-ghost use Rattle.rv_poke.specs.Sessions.{EndCause, Session, Watches, poke_at, session_state, user_named};
+ghost use Rattle.rv_poke.specs.Looking.{Heeded, Looked, rise_of};
+ghost use Rattle.rv_poke.specs.Sessions.{EndCause, Session, Watches, session_state, user_named};
 
 use crate::bell::Bell;
 use crate::first::First;
@@ -53,12 +53,37 @@ fn look<M: Marks, L: PokeLink>(
 
 // How many pokes a look has sent, by what was told before it and after.
 fn poked(told: u32, now: u32) -> u32
-    ensures { result ≡ poke_at told now }
+    ensures { result ≡ rise_of told now }
 {
     if told < now { 1 } else { 0 }
 }
 
-// Looks at a user's mark, at once and after each ring, until the session ends.
+// Waits for the bell: where it rings the session looks, and where it is silent it pings the client. Answers what is told now, or nothing
+// where all is over.
+fn heed<M: Marks, L: PokeLink, B: Bell, R: Wait>(
+    rt: &R,
+    marks: &mut M,
+    user: &User,
+    link: &mut L,
+    bell: &mut B,
+    told: u32,
+) -> Result<Option<u32>, Failed>
+    ensures { Heeded M.marks user.now told marks.old marks.new (L.state link.old) (L.state link.new) (B.state bell.old) (B.state bell.new) result }
+{
+    match bell.wait(rt) {
+        Waited::Rung => {
+            let now = look(marks, user, link, told)?;
+            Ok(Some(now))
+        }
+        Waited::Quiet => {
+            link.ping()?;
+            Ok(Some(told))
+        }
+        Waited::Over => Ok(None),
+    }
+}
+
+// Looks at a user's mark at once, and then does what the bell says, until the session ends.
 fn watch<M: Marks, L: PokeLink, B: Bell, R: Wait>(
     rt: &R,
     marks: &mut M,
@@ -78,15 +103,14 @@ fn watch<M: Marks, L: PokeLink, B: Bell, R: Wait>(
         if pokes == MOST_POKES {
             return PokeEnd::Done(pokes);
         }
-        match bell.wait(rt) {
-            Waited::Rung => {}
-            Waited::Over => return PokeEnd::Done(pokes),
+        match heed(rt, marks, user, link, bell, told) {
+            Ok(Some(now)) => {
+                pokes += poked(told, now);
+                told = now;
+            }
+            Ok(None) => return PokeEnd::Done(pokes),
+            Err(Failed) => return PokeEnd::LinkFault,
         }
-        let Ok(now) = look(marks, user, link, told) else {
-            return PokeEnd::LinkFault;
-        };
-        pokes += poked(told, now);
-        told = now;
     }
     PokeEnd::Done(pokes)
 }
@@ -96,8 +120,9 @@ fn watch<M: Marks, L: PokeLink, B: Bell, R: Wait>(
 /// The first message is to be a text that is an account's key; else the link is closed with 1008, and the session is denied, even
 /// where the close fails. From then on the session looks at its user's mark, at once and after each ring of the bell. A look sends
 /// the text `poke` exactly where the mark is above what was told, 0 at first, and then the mark is what was told; where it sends none, it
-/// looks whether the client is there. The session ends as all is over, after 10,000 pokes or after 1,000,000 waits, where a poke
-/// can't be sent, or where the client has left. A poke is sent before the bell is asked again.
+/// looks whether the client is there. Where the bell was silent it sends a ping. The session ends as all is over, after 10,000 pokes or
+/// after 1,000,000 waits, where a poke or a ping can't be sent, or where the client has left. A poke is sent before the bell is asked
+/// again.
 pub fn poke_session<M: Marks, L: PokeLink, B: Bell, R: Wait>(
     rt: &R,
     alloc: Global,

@@ -3,6 +3,8 @@
 pub enum Waited {
     /// The bell was rung: something may have changed.
     Rung,
+    /// The bell was silent for some time.
+    Quiet,
     /// All is over: nothing will change any more.
     Over,
 }

@@ -4,7 +4,7 @@ use Rattle.rv_net.specs.declared.poke_listen.PokeListen.{Ghosts as PokeListenGho
 use Rattle.rv_accounts.specs.declared.account.Account.{Account}
 use Rattle.rv_poke.specs.Bells.{BellState}
 use Rattle.rv_poke.specs.Links.{LinkState}
-use Rattle.rv_poke.specs.Sessions.{Looks, Session, Watched, Watches, WatchesNamed, session_state}
+use Rattle.rv_poke.specs.Sessions.{Deed, Looks, Session, Watched, Watches, WatchesNamed, marks_of, session_state}
 use Rattle.rv_poke.specs.declared.poke_end.PokeEnd.{PokeEnd}
 use Rattle.rv_poke.specs.declared.poke_end.PokeEnd.TheVariants.{Done, Denied, LinkFault, Memory}
 use Rattle.rv_poke.specs.declared.poke_link.PokeLink.{Ghosts as LinkGhosts}
@@ -24,18 +24,18 @@ module _ {S V : Type 0} (shown : S → V) (Goes : S → S → Type 0) (goes_same
       ((shown mid, one, others), goes_on old mid new on further)
 
   module _ (old new : S) (link link' : LinkState) (bell bell' : BellState) where
-    watched_shown : (user before : List ℕ) (mark : ℕ) (well : List ℕ) → Watched marking user (session_state old link bell) (session_state new link' bell') before mark well
-        → Watched marks user (session_state (shown old) link bell) (session_state (shown new) link' bell') before mark well × Goes old new
-    watched_shown user before mark well watched =
-        let (looks, on) = looks_shown user old (before ++ mark ∷ []) new watched.looks in
-        (record { looks = looks; rung = watched.rung; few = watched.few; waits = watched.waits; said = watched.said; found = watched.found }, on)
+    watched_shown : (user : List ℕ) (before : List Deed) (last : Deed) (well : List Deed) → Watched marking user (session_state old link bell) (session_state new link' bell') before last well
+        → Watched marks user (session_state (shown old) link bell) (session_state (shown new) link' bell') before last well × Goes old new
+    watched_shown user before last well watched =
+        let (looks, on) = looks_shown user old (marks_of (before ++ last ∷ [])) new watched.looks in
+        (record { begun = watched.begun; looks = looks; rung = watched.rung; silent = watched.silent; few = watched.few; waits = watched.waits; said = watched.said; found = watched.found }, on)
 
     watches_shown : (user : List ℕ) (end : PokeEnd) → Watches marking user (session_state old link bell) (session_state new link' bell') end
         → Watches marks user (session_state (shown old) link bell) (session_state (shown new) link' bell') end × Goes old new
-    watches_shown user (Done pokes) (before, mark, are, watched, stops) =
-        let (so, on) = watched_shown user before mark _ watched in ((before, mark, are, so, stops), on)
-    watches_shown user LinkFault (before, mark, watched, still) =
-        let (so, on) = watched_shown user before mark _ watched in ((before, mark, so, still), on)
+    watches_shown user (Done pokes) (before, last, are, watched, stops) =
+        let (so, on) = watched_shown user before last _ watched in ((before, last, are, so, stops), on)
+    watches_shown user LinkFault (before, last, watched, still) =
+        let (so, on) = watched_shown user before last _ watched in ((before, last, so, still), on)
     watches_shown user Denied never = absurd never
     watches_shown user Memory never = absurd never
 

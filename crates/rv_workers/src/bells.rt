@@ -15,8 +15,11 @@ const RING: u64 = 256;
 // A wait sleeps while these bits of the word are as they were.
 const LOW: u64 = 1 << 32;
 
-// After so many seconds without a ring a wait ends as if it was rung, so that a session looks whether its client is still there.
-const QUIET_SECONDS: u64 = 60;
+// A wait sleeps so many times, for so many seconds at most, and then the bell was silent. A sleep may end early, as where the ring of which a
+// wait has told wakes it once more: so it is a minute, or a little less.
+const SLEEPS: u32 = 12;
+
+const SLEEP_SECONDS: u64 = 5;
 
 /// What the workers of one run tell its poke jobs, in one word: in its low 8 bits how many workers have left, and above them how often
 /// something was entered that others may have to be told of. A change of it wakes all who wait.
@@ -78,15 +81,17 @@ impl Gate for RingingGate<'_> {
 }
 
 /// A bell that is rung where something was entered since it was asked last, and over once so many workers have left. A ring that is not yet
-/// heard comes before the end. It rings by itself after a minute in which it was not.
+/// heard comes before the end. It was silent where it was not rung for about a minute.
 #[derive(Drop)]
 pub struct WordBell<'r> {
     bells: &'r Bells,
     workers: u64,
     // How many rings there were when it was asked last.
     heard: u64,
-    /// How often a wait ended as it was rung, or a minute was over. It stands still at 2^64 - 1.
+    /// How often a wait ended as it was rung. It stands still at 2^64 - 1.
     pub rungs: u64,
+    /// How often a wait ended as it was silent. It stands still at 2^64 - 1.
+    pub quiets: u64,
     /// How often a wait ended as all was over. It stands still at 2^64 - 1.
     pub overs: u64,
 }
@@ -101,6 +106,7 @@ impl<'r> WordBell<'r> {
             workers: u64::from(workers),
             heard: bells.word() / RING,
             rungs: 0,
+            quiets: 0,
             overs: 0,
         }
     }
@@ -128,17 +134,19 @@ impl Bell for WordBell<'_> {
     ghost state = { word_bell_state };
 
     fn wait<R: Wait>(&mut self, rt: &R) -> Waited {
-        let word = self.bells.word();
-        if let Some(waited) = self.hear(word) {
-            return waited;
+        let most = Duration::from_secs(SLEEP_SECONDS);
+        for _sleep in 0..SLEEPS {
+            let word = self.bells.word();
+            if let Some(waited) = self.hear(word) {
+                return waited;
+            }
+            self.bells.word.park_timeout(rt, (word % LOW) as u32, most);
         }
-        let quiet = Duration::from_secs(QUIET_SECONDS);
-        self.bells.word.park_timeout(rt, (word % LOW) as u32, quiet);
         if let Some(waited) = self.hear(self.bells.word()) {
             return waited;
         }
-        self.rungs = self.rungs.saturating_add(1);
-        Waited::Rung
+        self.quiets = self.quiets.saturating_add(1);
+        Waited::Quiet
     }
 
     fn is_over(&self) -> bool {

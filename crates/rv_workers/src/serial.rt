@@ -36,6 +36,6 @@ impl<R: Threads + Sync> Crew for Serial<R> {
     }
 
     fn bell(&mut self, _workers: u32) -> Result<MemoryBell, Memory> {
-        Ok(MemoryBell::new(0))
+        Ok(MemoryBell::new(0, 0))
     }
 }

@@ -124,7 +124,7 @@ fn session<R: Wait>(
 ) -> (PokeEnd, u64) {
     let mut link = SocketLink::new(stream);
     let mut script = Script::new(&[1, 2]);
-    let mut bell = MemoryBell::new(1);
+    let mut bell = MemoryBell::new(0, 1);
     let end = poke_session(waiting, alloc, &mut script, accounts, &mut link, &mut bell);
     (end, link.faults)
 }

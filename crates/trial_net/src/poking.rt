@@ -17,15 +17,16 @@ enum Comes {
     None,
 }
 
-// A session over a link in memory: what it is, its first message, the mark of each look, how often the bell is rung, and the call of
-// the link that fails, if it isn't 0.
-type Case = (&'static str, Comes, &'static [u32], u32, u64);
+// A session over a link in memory: what it is, its first message, the mark of each look, how often the bell is silent and then rung, and
+// the call of the link that fails, if it isn't 0.
+type Case = (&'static str, Comes, &'static [u32], u32, u32, u64);
 
-static CASES: [Case; 18] = [
+static CASES: [Case; 21] = [
     (
         "a mark, nothing new, a higher mark",
         Comes::Text("Hello"),
         &[1, 1, 3],
+        0,
         2,
         0,
     ),
@@ -33,6 +34,7 @@ static CASES: [Case; 18] = [
         "the first message can't be taken",
         Comes::Text("Hello"),
         &[1, 1, 3],
+        0,
         2,
         1,
     ),
@@ -40,6 +42,7 @@ static CASES: [Case; 18] = [
         "the first poke can't be sent",
         Comes::Text("Hello"),
         &[1, 1, 3],
+        0,
         2,
         2,
     ),
@@ -47,6 +50,7 @@ static CASES: [Case; 18] = [
         "the client has left where nothing is new",
         Comes::Text("Hello"),
         &[1, 1, 3],
+        0,
         2,
         3,
     ),
@@ -54,6 +58,7 @@ static CASES: [Case; 18] = [
         "the second poke can't be sent",
         Comes::Text("Hello"),
         &[1, 1, 3],
+        0,
         2,
         4,
     ),
@@ -61,15 +66,17 @@ static CASES: [Case; 18] = [
         "a later call would fail",
         Comes::Text("Hello"),
         &[1, 1, 3],
+        0,
         2,
         5,
     ),
-    ("no ring", Comes::Text("Hello"), &[1], 0, 0),
-    ("no mark yet", Comes::Text("Hello"), &[0, 0], 1, 0),
+    ("no ring", Comes::Text("Hello"), &[1], 0, 0, 0),
+    ("no mark yet", Comes::Text("Hello"), &[0, 0], 0, 1, 0),
     (
         "no mark yet, and the client has left",
         Comes::Text("Hello"),
         &[0, 0],
+        0,
         1,
         2,
     ),
@@ -77,6 +84,7 @@ static CASES: [Case; 18] = [
         "no mark yet, and the client has left at the ring",
         Comes::Text("Hello"),
         &[0, 0],
+        0,
         1,
         3,
     ),
@@ -84,16 +92,41 @@ static CASES: [Case; 18] = [
         "lower marks between",
         Comes::Text("Hello"),
         &[3, 1, 3, 4, 2],
+        0,
         4,
         0,
     ),
-    ("another text", Comes::Text("zz"), &[1], 1, 0),
-    ("a front of the key", Comes::Text("Hell"), &[1], 1, 0),
-    ("the key and more", Comes::Text("Hello "), &[1], 1, 0),
-    ("an empty text", Comes::Text(""), &[1], 1, 0),
-    ("no text", Comes::Other, &[1], 1, 0),
-    ("the close fails", Comes::Text("zz"), &[1], 1, 2),
-    ("no message", Comes::None, &[1], 1, 0),
+    (
+        "silent twice, and then a ring",
+        Comes::Text("Hello"),
+        &[1, 2],
+        2,
+        1,
+        0,
+    ),
+    (
+        "silent, and no mark yet",
+        Comes::Text("Hello"),
+        &[0],
+        1,
+        0,
+        0,
+    ),
+    (
+        "the second ping can't be sent",
+        Comes::Text("Hello"),
+        &[1, 2],
+        2,
+        1,
+        4,
+    ),
+    ("another text", Comes::Text("zz"), &[1], 0, 1, 0),
+    ("a front of the key", Comes::Text("Hell"), &[1], 0, 1, 0),
+    ("the key and more", Comes::Text("Hello "), &[1], 0, 1, 0),
+    ("an empty text", Comes::Text(""), &[1], 0, 1, 0),
+    ("no text", Comes::Other, &[1], 0, 1, 0),
+    ("the close fails", Comes::Text("zz"), &[1], 0, 1, 2),
+    ("no message", Comes::None, &[1], 0, 1, 0),
 ];
 
 // The first message of a case.
@@ -116,19 +149,18 @@ fn play<R: Wait>(
     case: &Case,
 ) -> anyhow::Result<()> {
     let alloc = rt.alloc();
-    let (name, comes, marks, rings, failing) = *case;
+    let (name, comes, marks, silences, rings, failing) = *case;
     println!(rt; "== {name}")?;
     let failing = Vec::from_slice(alloc, &[failing])?;
     let mut link = MemoryLink::new(alloc, first_of(alloc, comes)?, failing);
     let mut script = Script::new(marks);
-    let mut bell = MemoryBell::new(rings);
+    let mut bell = MemoryBell::new(silences, rings);
     let end = poke_session(waiting, alloc, &mut script, accounts, &mut link, &mut bell);
     println!(rt; "{end:?}, sent: {:?}", link.sent)?;
     let looks = script.looks;
-    let MemoryBell { left, rungs, overs } = bell;
     println!(rt;
-        "looks: {looks}, found: {}, rungs: {rungs}, overs: {overs}, rings left: {left}, faults: {}",
-        link.found, link.faults
+        "looks: {looks}, found: {}, rungs: {}, quiets: {}, overs: {}, rings left: {}, faults: {}",
+        link.found, bell.rungs, bell.quiets, bell.overs, bell.left, link.faults
     )?;
     Ok(())
 }

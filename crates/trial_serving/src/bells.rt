@@ -43,6 +43,7 @@ impl Known {
 fn letter(waited: Waited) -> &'static str {
     match waited {
         Waited::Rung => "R",
+        Waited::Quiet => "Q",
         Waited::Over => "O",
     }
 }

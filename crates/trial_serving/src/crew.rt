@@ -134,6 +134,6 @@ impl<'x, R: Threads + Sync> Crew for WatchingCrew<'x, R> {
     }
 
     fn bell(&mut self, _workers: u32) -> Result<MemoryBell, Memory> {
-        Ok(MemoryBell::new(0))
+        Ok(MemoryBell::new(0, 0))
     }
 }

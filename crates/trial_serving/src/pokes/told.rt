@@ -22,6 +22,7 @@ fn pokes_in(sent: &[Sent]) -> u64 {
 fn add_one(alloc: Global, text: &mut String, one: Sent) -> Result<(), Memory> {
     match one {
         Sent::Poke => append_parts(alloc, text, &[Text("poke")]),
+        Sent::Ping => append_parts(alloc, text, &[Text("ping")]),
         Sent::Close(code) => {
             append_parts(alloc, text, &[Text("close "), Number(u64::from(code))])
         }
