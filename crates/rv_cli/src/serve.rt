@@ -225,7 +225,8 @@ where
     <N::Listen as Listen>::In: Send,
     <N::Listen as Listen>::Out: Send,
     <N::Pokes as PokeListen>::Link: PokeLink + Send,
-    ensures serve { WasServed P.Place P.Kept.Keeper (network N.Net N.Listen.Listen N.Listen.In.Source N.Listen.Out.Sink N.Pokes.PokeListen N.Pokes.Link.PokeLink) O.Sink store.now options.now place.old place.new net.old net.new out.old out.new result }
+    ensures serve { WasServed P.Place P.Kept.Keeper (network N.Net N.Listen.Listen N.Listen.In.Source N.Listen.Out.Sink N.Pokes.PokeListen N.Pokes.Link.PokeLink)
+        O.Sink store.now options.now place.old place.new net.old net.new out.old out.new result }
     ensures unserved { WasUnserved N.Net net.old net.new result }
     ensures wanted { WasWanted N.Net net.old net.new options.now }
     ensures steady { O.fails_no_more out.old → O.fails_no_more out.new × (Rose (O.state out.old).refusals (O.state out.new).refusals ⊎ (result ≢ 7)) }
@@ -267,7 +268,8 @@ where
     <N::Pokes as PokeListen>::Link: PokeLink + Send,
     // What is written are the answers to the requests of connections, over turns of seats at one book from the one that the store kept,
     // and the store keeps the book that they leave.
-    ensures serve { WasServed P.Place P.Kept.Keeper (network N.Net N.Listen.Listen N.Listen.In.Source N.Listen.Out.Sink N.Pokes.PokeListen N.Pokes.Link.PokeLink) O.Sink store.now options.now place.old place.new net.old net.new out.old out.new result }
+    ensures serve { WasServed P.Place P.Kept.Keeper (network N.Net N.Listen.Listen N.Listen.In.Source N.Listen.Out.Sink N.Pokes.PokeListen N.Pokes.Link.PokeLink)
+        O.Sink store.now options.now place.old place.new net.old net.new out.old out.new result }
 
     // At other statuses than 0 and 7 nothing was served.
     ensures unserved { WasUnserved N.Net net.old net.new result }

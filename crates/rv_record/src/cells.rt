@@ -5,7 +5,8 @@ ghost use Rattle.serde_json.specs.Written.{compact_text};
 ghost use Rattle.rv_rows.specs.Keys.{row_text};
 ghost use Rattle.rv_book.specs.declared.entry.Entry.TheVariants.{Act, Look, Retire};
 ghost use Rattle.rv_record.specs.EntryTexts.{entry_data};
-ghost use Rattle.rv_record.specs.CellTexts.{AreTexts, row_body, client_body, group_body, view_body, entry_cell, row_cell, row_cell_on, client_cell, client_cell_on, group_cell, group_cell_on, page_cell, page_client_cell, page_group_cell, page_row_cell, view_cell};
+ghost use Rattle.rv_record.specs.CellTexts.{AreTexts, row_body, client_body, group_body, view_body, entry_cell, row_cell, row_cell_on, client_cell, client_cell_on, group_cell, group_cell_on, view_cell};
+ghost use Rattle.rv_record.specs.CellTexts.{page_cell, page_client_cell, page_group_cell, page_row_cell};
 ghost use Rattle.rv_record.specs.CellReading.{same_cell};
 
 use crate::places::ten_digits;

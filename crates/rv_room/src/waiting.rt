@@ -132,7 +132,8 @@ impl<K: Keeper> Room<K> {
         requires table { token.old.table_id ≡ self.now.table.shared.table_id }
         requires waits { (token.old.me.0.waits ≡ 1) × (token.old.me.0.turns ≡ 0) × (token.old.me.0.ticket % 2 ^ 64 ≡ ticket) }
         ensures same { (token.new.table_id ≡ token.old.table_id) × (token.new.id ≡ token.old.id) }
-        ensures turn { (d : Seated K) × IsOf K.Keeper token.old.me.0 d × Extends d.book token.old.me.0.seen × FollowsAll K.Keeper token.old.me.0.after d.keeper × (token.new.me ≡ (on_turn K.faults token.old.me.0 d, (0, Some d) ∷ token.old.me.1)) }
+        ensures turn { (d : Seated K) × IsOf K.Keeper token.old.me.0 d × Extends d.book token.old.me.0.seen × FollowsAll K.Keeper token.old.me.0.after d.keeper ×
+            (token.new.me ≡ (on_turn K.faults token.old.me.0 d, (0, Some d) ∷ token.old.me.1)) }
     {
         let bell = bell_of(ticket);
         let mut spins = 0;

@@ -48,9 +48,20 @@ impl Model for State {
 
     ghost Value = { Standing };
 
-    ghost view = { λ s. record { book = s.book.book; limit = s.book.limit; spare_entries = s.book.spare; rows = s.tables.rows; spare_rows = s.tables.spare; records = s.records.records; spare_views = s.records.spare; marks = s.marks.marks; spare_marks = s.marks.spare } };
+    ghost view = { λ s. record {
+      book = s.book.book;
+      limit = s.book.limit;
+      spare_entries = s.book.spare;
+      rows = s.tables.rows;
+      spare_rows = s.tables.spare;
+      records = s.records.records;
+      spare_views = s.records.spare;
+      marks = s.marks.marks;
+      spare_marks = s.marks.spare;
+    } };
 
-    ghost invariant = { λ s. IsLawful s.book.book × IsReplay s.book.book s.tables.rows × AreRecords s.book.book s.records.records × AllByRecursion EntryFits s.book.book.entries × AreMarks s.book.book s.marks.marks × PartsFit s.book.book.page × IsWithin s.book.book s.book.limit };
+    ghost invariant = { λ s. IsLawful s.book.book × IsReplay s.book.book s.tables.rows × AreRecords s.book.book s.records.records ×
+        AllByRecursion EntryFits s.book.book.entries × AreMarks s.book.book s.marks.marks × PartsFit s.book.book.page × IsWithin s.book.book s.book.limit };
 }
 
 // Makes space for an entry.
