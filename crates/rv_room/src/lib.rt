@@ -7,6 +7,7 @@
 //! desk back, whose book is the history of all turns.
 #![tactic(auto)]
 
+mod boxed_desk;
 mod opening;
 mod room;
 mod rule;
@@ -19,6 +20,7 @@ mod turning;
 mod view;
 mod waiting;
 
+pub use boxed_desk::BoxedDesk;
 pub use room::Room;
 pub use rule::{About, OneHistory};
 pub use seat::{Seat, Token};

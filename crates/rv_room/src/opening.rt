@@ -4,6 +4,7 @@ ghost use Rattle.rv_room.specs.Closing.{Closes, gather};
 ghost use Rattle.rv_room.specs.Seats.{id_of, opened_of, seats_of, view_of, AllOf, AllNew};
 ghost use Rattle.rv_room.specs.Views.{newcomer, IsIdle};
 
+use crate::boxed_desk::BoxedDesk;
 use crate::room::{Room, RoomTable, SharedTable};
 use crate::rule::{About, CutOne, JoinBoth};
 use crate::seat::{Seat, Token};
@@ -72,9 +73,6 @@ impl<K: Keeper> Room<K> {
         let Ok(mut list) = Vec::with_capacity(alloc, seats as usize) else {
             return Err((Memory, desk));
         };
-        let Ok(mut slots) = Vec::with_capacity(alloc, 1) else {
-            return Err((Memory, desk));
-        };
         let about = About {
             seats,
             opened: Snapshot::of(&desk),
@@ -83,6 +81,10 @@ impl<K: Keeper> Room<K> {
         let words = [
             0, 0, length, 0, 0, 0, 0, 0, 0, 0, 0, 0, 0, 0, 0, 0, 0, 0, 0, 0, 0,
         ];
+        let desk = BoxedDesk::new(alloc, desk)?;
+        let Ok(mut slots) = Vec::with_capacity(alloc, 1) else {
+            return Err((Memory, desk.into_inner()));
+        };
         slots.push_reserved(Some(desk));
         match RoomTable::<K>::new(alloc, &words, slots, &about) {
             Ok((table, first)) => {
@@ -95,7 +97,7 @@ impl<K: Keeper> Room<K> {
                 };
                 slots.destroy_empty();
                 let Some(desk) = slot else { unreachable!() };
-                Err((Memory, desk))
+                Err((Memory, desk.into_inner()))
             }
         }
     }
@@ -117,6 +119,6 @@ impl<K: Keeper> Room<K> {
         let slot = closed.take(0);
         closed.free();
         let Some(desk) = slot else { unreachable!() };
-        desk
+        desk.into_inner()
     }
 }

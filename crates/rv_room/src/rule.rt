@@ -1,4 +1,5 @@
 // The rule of the table that a room is, and what its steps tell.
+use crate::boxed_desk::BoxedDesk;
 use crate::view::SeatView;
 use atomic_table::{Join, Play, Split, TableRule};
 use rv_desk::Desk;
@@ -20,7 +21,7 @@ pub struct OneHistory<K> {
     keeper: PhantomData<K>,
 }
 
-impl<K: Keeper> TableRule<Option<Desk<K>>, SeatView<K>, About<K>> for OneHistory<K> {
+impl<K: Keeper> TableRule<Option<BoxedDesk<K>>, SeatView<K>, About<K>> for OneHistory<K> {
     ghost use Rattle.rv_room.specs.Rule.{KeptIn};
     ghost use Rattle.rv_room.specs.Views.{newcomer};
 
@@ -32,7 +33,7 @@ impl<K: Keeper> TableRule<Option<Desk<K>>, SeatView<K>, About<K>> for OneHistory
 // A ticket is taken.
 pub(crate) struct TakeTicket;
 
-impl<K: Keeper> Play<Option<Desk<K>>, SeatView<K>> for TakeTicket {
+impl<K: Keeper> Play<Option<BoxedDesk<K>>, SeatView<K>> for TakeTicket {
     ghost use Rattle.rv_room.specs.Plays.{TakesTicket};
 
     ghost then = { λ _. TakesTicket };
@@ -41,7 +42,7 @@ impl<K: Keeper> Play<Option<Desk<K>>, SeatView<K>> for TakeTicket {
 // A ticket is taken if it still is the next one.
 pub(crate) struct TakeFreeTicket;
 
-impl<K: Keeper> Play<Option<Desk<K>>, SeatView<K>> for TakeFreeTicket {
+impl<K: Keeper> Play<Option<BoxedDesk<K>>, SeatView<K>> for TakeFreeTicket {
     ghost use Rattle.rv_room.specs.Plays.{TakesIfNext};
 
     ghost then = { λ step. TakesIfNext step.first };
@@ -50,7 +51,7 @@ impl<K: Keeper> Play<Option<Desk<K>>, SeatView<K>> for TakeFreeTicket {
 // The number of turns that have ended is read. Where it is the seat's ticket, the seat has the turn, and the desk.
 pub(crate) struct CheckTurn;
 
-impl<K: Keeper> Play<Option<Desk<K>>, SeatView<K>> for CheckTurn {
+impl<K: Keeper> Play<Option<BoxedDesk<K>>, SeatView<K>> for CheckTurn {
     ghost use Rattle.rv_room.specs.Plays.{ChecksTurn};
 
     ghost then = { λ _. ChecksTurn K.Keeper };
@@ -59,7 +60,7 @@ impl<K: Keeper> Play<Option<Desk<K>>, SeatView<K>> for CheckTurn {
 // The entry that was in doubt is counted.
 pub(crate) struct CountSettled;
 
-impl<K: Keeper> Play<Option<Desk<K>>, SeatView<K>> for CountSettled {
+impl<K: Keeper> Play<Option<BoxedDesk<K>>, SeatView<K>> for CountSettled {
     ghost use Rattle.rv_room.specs.Plays.{CountsSettled};
 
     ghost then = { λ _. CountsSettled };
@@ -68,7 +69,7 @@ impl<K: Keeper> Play<Option<Desk<K>>, SeatView<K>> for CountSettled {
 // The entry that the step made is counted.
 pub(crate) struct CountMade;
 
-impl<K: Keeper> Play<Option<Desk<K>>, SeatView<K>> for CountMade {
+impl<K: Keeper> Play<Option<BoxedDesk<K>>, SeatView<K>> for CountMade {
     ghost use Rattle.rv_room.specs.Plays.{CountsMade};
 
     ghost then = { λ _. CountsMade };
@@ -77,7 +78,7 @@ impl<K: Keeper> Play<Option<Desk<K>>, SeatView<K>> for CountMade {
 // The desk is looked at after it has settled and stepped: what is in doubt now was left by this turn.
 pub(crate) struct NoteSettled;
 
-impl<K: Keeper> Play<Option<Desk<K>>, SeatView<K>> for NoteSettled {
+impl<K: Keeper> Play<Option<BoxedDesk<K>>, SeatView<K>> for NoteSettled {
     ghost use Rattle.rv_room.specs.Plays.{NotesSettled};
 
     ghost then = { λ _. NotesSettled };
@@ -86,7 +87,7 @@ impl<K: Keeper> Play<Option<Desk<K>>, SeatView<K>> for NoteSettled {
 // The desk is looked at after it could not settle: what was in doubt still is.
 pub(crate) struct NoteKeeper;
 
-impl<K: Keeper> Play<Option<Desk<K>>, SeatView<K>> for NoteKeeper {
+impl<K: Keeper> Play<Option<BoxedDesk<K>>, SeatView<K>> for NoteKeeper {
     ghost use Rattle.rv_room.specs.Plays.{NotesKeeper};
 
     ghost then = { λ _. NotesKeeper };
@@ -95,7 +96,7 @@ impl<K: Keeper> Play<Option<Desk<K>>, SeatView<K>> for NoteKeeper {
 // The turn is passed on.
 pub(crate) struct PassTurn;
 
-impl<K: Keeper> Play<Option<Desk<K>>, SeatView<K>> for PassTurn {
+impl<K: Keeper> Play<Option<BoxedDesk<K>>, SeatView<K>> for PassTurn {
     ghost use Rattle.rv_room.specs.Plays.{Passes};
 
     ghost then = { λ _. Passes };
@@ -104,7 +105,7 @@ impl<K: Keeper> Play<Option<Desk<K>>, SeatView<K>> for PassTurn {
 // A word changes that only wakes seats: a bell, or how many sleep.
 pub(crate) struct Signal;
 
-impl<K: Keeper> Play<Option<Desk<K>>, SeatView<K>> for Signal {
+impl<K: Keeper> Play<Option<BoxedDesk<K>>, SeatView<K>> for Signal {
     ghost use Rattle.rv_room.specs.Plays.{Signals};
 
     ghost then = { λ _. Signals };

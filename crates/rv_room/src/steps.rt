@@ -10,11 +10,11 @@ ghost use Rattle.rv_room.specs.Ends.{end_view, held_view};
 ghost use Rattle.rv_room.specs.Rule.{IsOf};
 ghost use Rattle.rv_room.specs.Views.{IsIdle, entered, grown, noted, waiting, on_turn, with_keeper};
 
+use crate::boxed_desk::BoxedDesk;
 use crate::room::Room;
 use crate::rule::{CountMade, CountSettled, NoteKeeper, NoteSettled};
 use crate::seat::Token;
 use crate::waiting::TURNS;
-use rv_desk::Desk;
 use rv_keeper::Keeper;
 use std::sync::Wait;
 
@@ -31,7 +31,7 @@ fn differs(before: u32, now: u32) -> bool
 
 impl<K: Keeper> Room<K> {
     // Takes the desk out of its slot.
-    fn take_out(&self, token: &mut Token<K>) -> Desk<K>
+    fn take_out(&self, token: &mut Token<K>) -> BoxedDesk<K>
         requires table { token.old.table_id ≡ self.now.table.shared.table_id }
         requires out { (d : Seated K) × (token.old.me.1 ≡ (0, Some d) ∷ []) }
         ensures same { (token.new.table_id ≡ token.old.table_id) × (token.new.id ≡ token.old.id) }
@@ -45,7 +45,7 @@ impl<K: Keeper> Room<K> {
     }
 
     // Puts the desk into its slot.
-    fn put_home(&self, token: &mut Token<K>, desk: Desk<K>)
+    fn put_home(&self, token: &mut Token<K>, desk: BoxedDesk<K>)
         requires table { token.old.table_id ≡ self.now.table.shared.table_id }
         requires empty { token.old.me.1 ≡ (0, None) ∷ [] }
         ensures same { (token.new.table_id ≡ token.old.table_id) × (token.new.id ≡ token.old.id) }
@@ -124,7 +124,7 @@ impl<K: Keeper> Room<K> {
     }
 
     // Waits for the next turn and takes the desk.
-    pub(crate) fn begin(&self, rt: &impl Wait, token: &mut Token<K>) -> Desk<K>
+    pub(crate) fn begin(&self, rt: &impl Wait, token: &mut Token<K>) -> BoxedDesk<K>
         requires table { token.old.table_id ≡ self.now.table.shared.table_id }
         requires idle { IsIdle token.old.me.0 × (0 < token.old.me.0.parts) × (token.old.me.1 ≡ []) }
         ensures same { (token.new.table_id ≡ token.old.table_id) × (token.new.id ≡ token.old.id) }
@@ -139,7 +139,7 @@ impl<K: Keeper> Room<K> {
     }
 
     // Puts the desk home after it could not settle, and passes the turn on.
-    pub(crate) fn end_held(&self, token: &mut Token<K>, desk: Desk<K>)
+    pub(crate) fn end_held(&self, token: &mut Token<K>, desk: BoxedDesk<K>)
         requires table { token.old.table_id ≡ self.now.table.shared.table_id }
         requires empty { (token.old.me.1 ≡ (0, None) ∷ []) × (token.old.me.0.turns ≡ 1) }
         requires of { IsOf K.Keeper token.old.me.0 desk }
@@ -158,7 +158,7 @@ impl<K: Keeper> Room<K> {
     pub(crate) fn end(
         &self,
         token: &mut Token<K>,
-        desk: Desk<K>,
+        desk: BoxedDesk<K>,
         began: u32,
         settled: u32,
         now: u32,

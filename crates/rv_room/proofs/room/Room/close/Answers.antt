@@ -32,4 +32,5 @@ returns g c =
     let len : length c.args.seats.list.items ≡ c.args.self.table.shared.key.seats = search rules in
     let s = shut_at g.K.Keeper _ _ _ _ _ _ (view_of c.in-Some.last) (map (view_of {K = g.row.K.Denot} {G = g.K.Keeper}) c.pop.new.self.items)
     (ap (λ m. m.0) c.join_all-token.ensures.all) c.in-Some.last.idle c.in-Some.last.one (all_parts _ _ _ _ c.in-Some.ensures.items len) c.close_with-closed.ensures.values.2 c.take-slot.result c.take-slot.ensures.value c.in-Some-slot.desk c.in-Some-slot.is in
-    subst (λ (vs : List (SeatView g.row.K.Denot)). Closes g.K.Keeper c.args.self.table.shared.key.opened.value vs c.in-Some-slot.desk) (sym (views_are _ _ _ c.in-Some.ensures.items)) s
+    let closes = subst (λ (vs : List (SeatView g.row.K.Denot)). Closes g.K.Keeper c.args.self.table.shared.key.opened.value vs c.in-Some-slot.desk) (sym (views_are _ _ _ c.in-Some.ensures.items)) s in
+    rw c.into_inner.ensures closes
