@@ -1,11 +1,11 @@
 -- The state of a book that opens with a page; and the page that sums a book up.
-use Rattle.std.proofs.Common.{◌≡◌, ℕ, zero, suc, ◌+◌, ◌<◌, ◌≤◌, ◌^◌, List, [], ◌∷◌, ◌++◌, length, take, drop, slice_get, Option, Some, None, refl, sym, ap, ◌∙◌, subst, arith, inr}
+use Rattle.std.proofs.Common.{◌≡◌, ℕ, zero, suc, ◌+◌, ◌<◌, ◌≤◌, ◌^◌, List, [], ◌∷◌, ◌++◌, length, take, slice_get, Some, None, sym, ap, ◌∙◌, subst, arith, inr}
 use Rattle.std.specs.List.{AllByRecursion}
 use Rattle.rv_rows.specs.Held.{Stored}
 use Rattle.rv_book.specs.declared.page.Page.{Page}
 use Rattle.rv_book.specs.Book.{Book, book_from, size}
 use Rattle.rv_book.specs.SoundPages.{IsSoundPage}
-use Rattle.rv_history.specs.Closing.{Closes, SumsUp}
+use Rattle.rv_history.specs.Closing.{Closes}
 use Rattle.rv_history.specs.Lawful.{IsLawful}
 use Rattle.rv_history.specs.Openings.{closes_lawful, closes_replay, kept_opening, lawful_opening, mark_opening, replay_opening}
 use Rattle.rv_history.specs.Replay.{IsReplay}

@@ -7,6 +7,7 @@
 mod closing;
 mod entering;
 mod fitting;
+mod known;
 mod lawful;
 mod marks;
 mod prepared;

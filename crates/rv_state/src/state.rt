@@ -7,6 +7,7 @@ ghost use Rattle.rv_book.specs.Book.{empty_book, size};
 ghost use Rattle.rv_news.specs.News.{IsNews, IsTold, is_base_since};
 
 use crate::fitting::{act_fits, id_fits, look_fits};
+use crate::known::{find, find_group, with_known_list, with_known_names};
 use crate::marks::UserMarks;
 use crate::prepared::{Prepared, PreparedAct, PreparedLook};
 use rv_base::{Id, Memory, Num, Steps, User};
@@ -188,6 +189,7 @@ impl State {
         let user = user.copy(self.alloc)?;
         let group = group.copy(self.alloc)?;
         let client = client.copy(self.alloc)?;
+        let call = with_known_list(self.alloc, &self.tables, call);
         self.ready_act(user, group, client, id, call, found)
     }
 
@@ -280,7 +282,11 @@ impl State {
                 client,
                 id,
                 call,
-            } => self.ready_act(user, group, client, id, call, Found::nowhere()),
+            } => {
+                let found = find(&self.book, &group, &client);
+                let call = with_known_list(self.alloc, &self.tables, call);
+                self.ready_act(user, group, client, id, call, found)
+            }
             Entry::Look {
                 user,
                 group,
@@ -288,7 +294,8 @@ impl State {
                 base,
             } => {
                 let view = view_now(self.alloc, &self.book, &self.tables, &user, &group)?;
-                self.ready_look(user, group, order, base, view, Found::nowhere())
+                let found = find_group(&self.book, &group);
+                self.ready_look(user, group, order, base, view, found)
             }
             Entry::Retire { group } => self.ready_retirement(group),
         }
@@ -385,6 +392,7 @@ impl State {
             Prepared::Act(act) => {
                 let found = act.found;
                 let (entry, staged, concerned) = act.into_parts();
+                let entry = with_known_names(self.alloc, &self.book, entry, found);
                 self.book.push_found(entry, found);
                 staged.apply(&mut self.tables, place);
                 self.marks.set_all(concerned, place);
@@ -405,6 +413,7 @@ impl State {
                     order,
                     base,
                 };
+                let entry = with_known_names(self.alloc, &self.book, entry, found);
                 self.book.push_found(entry, found);
                 self.records.let_one_go(gone);
                 self.records.push(place, view);

@@ -1,4 +1,4 @@
-use Rattle.std.proofs.Common.{◌≡◌, ℕ, Bool, List, [], ◌∷◌, ◌++◌, ◌∙◌}
+use Rattle.std.proofs.Common.{◌≡◌, ℕ, List, [], ◌∷◌, ◌++◌, ◌∙◌}
 use Rattle.rv_book.specs.Registers.{clients_of}
 use Rattle.rv_record.specs.CellReading.{ClientFits}
 use Rattle.rv_state.proofs.Openings.{all_more, so_far}
