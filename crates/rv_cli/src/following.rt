@@ -31,7 +31,7 @@ fn take_line<O: Sink>(
         Err(Memory) => return Err(Ending::Memory),
     };
     match follower.take(read) {
-        Ok(Some(answer)) => match write_answer(out, &answer) {
+        Ok(Some(answer)) => match write_answer(alloc, out, &answer) {
             Ok(()) => Ok(()),
             Err(Failed) => Err(Ending::Write),
         },

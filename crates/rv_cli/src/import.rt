@@ -55,12 +55,12 @@ fn import_at<K: Keeper, S: Source>(
 }
 
 // Ends so, with the text of the ending.
-fn end_with<O: Sink>(out: &mut O, ending: ImportEnding) -> ImportEnding
+fn end_with<O: Sink>(alloc: Global, out: &mut O, ending: ImportEnding) -> ImportEnding
     ensures same { result ≡ ending }
     ensures text { WritesOnly (O.state out.old) (O.state out.new) (import_ending_text ending) }
     ensures steady { O.fails_no_more out.old → O.fails_no_more out.new }
 {
-    let _ = write_import_ending(out, &ending);
+    let _ = write_import_ending(alloc, out, &ending);
     ending
 }
 
@@ -82,7 +82,7 @@ fn write_counts<O: Sink>(alloc: Global, out: &mut O, counts: &ImportCounts) -> I
 {
     match counts.text(alloc) {
         Ok(text) => write_counted(out, &text),
-        Err(Memory) => end_with(out, ImportEnding::Memory),
+        Err(Memory) => end_with(alloc, out, ImportEnding::Memory),
     }
 }
 
@@ -97,13 +97,13 @@ fn write_came<O: Sink>(
 {
     match came {
         Ok(ImportEnd::Done(counts)) => write_counts(alloc, out, counts),
-        Ok(ImportEnd::TooLarge) => end_with(out, ImportEnding::TooLarge),
-        Ok(ImportEnd::BadRecord(number)) => end_with(out, ImportEnding::BadRecord(*number)),
-        Ok(ImportEnd::Refused(refusal)) => end_with(out, ImportEnding::Refused(*refusal)),
-        Ok(ImportEnd::Memory) => end_with(out, ImportEnding::Memory),
-        Err(InputFault::Read) => end_with(out, ImportEnding::Read),
-        Err(InputFault::TooLarge) => end_with(out, ImportEnding::TooLarge),
-        Err(InputFault::Memory) => end_with(out, ImportEnding::Memory),
+        Ok(ImportEnd::TooLarge) => end_with(alloc, out, ImportEnding::TooLarge),
+        Ok(ImportEnd::BadRecord(number)) => end_with(alloc, out, ImportEnding::BadRecord(*number)),
+        Ok(ImportEnd::Refused(refusal)) => end_with(alloc, out, ImportEnding::Refused(*refusal)),
+        Ok(ImportEnd::Memory) => end_with(alloc, out, ImportEnding::Memory),
+        Err(InputFault::Read) => end_with(alloc, out, ImportEnding::Read),
+        Err(InputFault::TooLarge) => end_with(alloc, out, ImportEnding::TooLarge),
+        Err(InputFault::Memory) => end_with(alloc, out, ImportEnding::Memory),
     }
 }
 

@@ -16,13 +16,18 @@ use rv_keeper::Keeper;
 use std::alloc::Global;
 
 // Answers what was read of a line, and writes its answer.
-fn serve<K: Keeper, O: Sink>(desk: &mut Desk<K>, read: Parsed, out: &mut O) -> Result<(), Ending>
+fn serve<K: Keeper, O: Sink>(
+    alloc: Global,
+    desk: &mut Desk<K>,
+    read: Parsed,
+    out: &mut O,
+) -> Result<(), Ending>
     ensures serves { (asked : Parsed) → IsReading asked read → ServesOrNot K.Keeper desk.old asked result desk.new (O.state out.old) (O.state out.new) }
     ensures steady { O.fails_no_more out.old → LineIsSteady (O.fails_no_more out.new) (O.state out.old).refusals (O.state out.new).refusals result }
     ensures steady_keeper { (asked : Parsed) → IsReading asked read → K.fails_no_more desk.old.keeper → DeskKeepsSteady K.fails_no_more K.faults desk.old.keeper desk.new.keeper }
 {
     let answer = serve_asked(desk, read);
-    match write_answer(out, &answer) {
+    match write_answer(alloc, out, &answer) {
         Ok(()) => Ok(()),
         Err(Failed) => Err(Ending::Write),
     }
@@ -52,7 +57,7 @@ fn take_line<K: Keeper, O: Sink>(
     ensures steady_keeper { K.fails_no_more desk.old.keeper → LineKeepsSteady (K.fails_no_more desk.new.keeper) (K.faults desk.old.keeper) (K.faults desk.new.keeper) result }
 {
     match line_of(alloc, line) {
-        Ok(Some(Line::Asks(read))) => serve(desk, read, out),
+        Ok(Some(Line::Asks(read))) => serve(alloc, desk, read, out),
         Ok(Some(Line::Stop)) => restart(desk),
         Ok(None) => Err(Ending::Malformed(number)),
         Err(Memory) => Err(Ending::Memory),

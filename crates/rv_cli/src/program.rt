@@ -89,11 +89,11 @@ fn closed<K: Keeper>(desk: Desk<K>) -> (Answer, K)
 }
 
 // Writes the one answer of a run.
-fn write_reply<O: Sink>(out: &mut O, answer: &Answer) -> Ending
+fn write_reply<O: Sink>(alloc: Global, out: &mut O, answer: &Answer) -> Ending
     ensures replies { WritesReply (O.state out.old) (O.state out.new) answer.now result }
     ensures steady { O.fails_no_more out.old → OutputIsSteady (O.fails_no_more out.new) (O.state out.old).refusals (O.state out.new).refusals result }
 {
-    match write_answer(out, answer) {
+    match write_answer(alloc, out, answer) {
         Ok(()) => Ending::Done,
         Err(Failed) => Ending::Write,
     }
@@ -117,7 +117,7 @@ pub fn run_retire<P: Place, O: Sink>(
         Ok(desk) => {
             let (answer, keeper) = retired(desk, group);
             place.close_keeper(store, keeper);
-            write_reply(out, &answer).status()
+            write_reply(alloc, out, &answer).status()
         }
         Err(ending) => refuse_opening(out, &ending),
     }
@@ -135,7 +135,7 @@ pub fn run_close<P: Place, O: Sink>(alloc: Global, place: &mut P, store: &str, o
         Ok(desk) => {
             let (answer, keeper) = closed(desk);
             place.close_keeper(store, keeper);
-            write_reply(out, &answer).status()
+            write_reply(alloc, out, &answer).status()
         }
         Err(ending) => refuse_opening(out, &ending),
     }
@@ -211,38 +211,25 @@ where
     ensures steady_input { S.fails_no_more input.old → S.fails_no_more input.new × (asks_to_follow words.now ≡ false → result ≢ 6) }
     ensures steady_output { O.fails_no_more out.old → O.fails_no_more out.new × (asks_to_follow words.now ≡ false → Rose (O.state out.old).refusals (O.state out.new).refusals ⊎ (result ≢ 7)) }
 {
-    match command_of(alloc, words) {
-        Ok(Some(Command::Feed { store })) => run_feed(alloc, place, store.as_str(), input, out),
-        Ok(Some(Command::Retire { store, group })) => run_retire(
-            alloc,
-            place,
-            store.as_str(),
-            &group,
-            out,
-        ),
-        Ok(Some(Command::CloseBook { store })) => run_close(alloc, place, store.as_str(), out),
-        Ok(Some(Command::Lists { store })) => run_lists(alloc, place, store.as_str(), out),
-        Ok(Some(Command::Activity { store })) => run_activity(alloc, place, store.as_str(), out),
-        Ok(Some(Command::Check { store })) => run_check(alloc, place, store.as_str(), out),
-        Ok(Some(Command::Ship { store })) => run_ship(alloc, place, store.as_str(), out),
-        Ok(Some(Command::Export { store, user })) => run_export(
-            alloc,
-            place,
-            store.as_str(),
-            &user,
-            out,
-        ),
-        Ok(Some(Command::Import { store, user, name })) => run_import(
-            alloc,
-            place,
-            store.as_str(),
-            &user,
-            &name,
-            input,
-            out,
-        ),
-        Ok(Some(Command::Make { seed, requests })) => run_make(alloc, seed, requests, out),
-        Ok(Some(Command::Serve { store, options })) => run_serve(
+    let command = match command_of(alloc, words) {
+        Ok(Some(command)) => command,
+        Ok(None) => return refuse_words(out),
+        Err(Memory) => return give_up(out),
+    };
+    match command {
+        Command::Feed { store } => run_feed(alloc, place, store.as_str(), input, out),
+        Command::Retire { store, group } => run_retire(alloc, place, store.as_str(), &group, out),
+        Command::CloseBook { store } => run_close(alloc, place, store.as_str(), out),
+        Command::Lists { store } => run_lists(alloc, place, store.as_str(), out),
+        Command::Activity { store } => run_activity(alloc, place, store.as_str(), out),
+        Command::Check { store } => run_check(alloc, place, store.as_str(), out),
+        Command::Ship { store } => run_ship(alloc, place, store.as_str(), out),
+        Command::Export { store, user } => run_export(alloc, place, store.as_str(), &user, out),
+        Command::Import { store, user, name } => {
+            run_import(alloc, place, store.as_str(), &user, &name, input, out)
+        }
+        Command::Make { seed, requests } => run_make(alloc, seed, requests, out),
+        Command::Serve { store, options } => run_serve(
             alloc,
             runtime,
             crew,
@@ -252,8 +239,6 @@ where
             out,
             net,
         ),
-        Ok(Some(Command::Follow { port })) => run_follow(alloc, port, out, net),
-        Ok(None) => refuse_words(out),
-        Err(Memory) => give_up(out),
+        Command::Follow { port } => run_follow(alloc, port, out, net),
     }
 }

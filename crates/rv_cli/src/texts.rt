@@ -1,5 +1,5 @@
 // The texts that are written.
-ghost use Rattle.std.specs.Prelude.{◌++◌, decimal, codes};
+ghost use Rattle.std.specs.Prelude.{◌≡◌, ◌++◌, decimal, codes, IfOk};
 ghost use Rattle.rv_base.specs.Outside.{Writes, IsSteady};
 ghost use Rattle.rv_answering.specs.declared.answer.Answer.TheVariants.{Closed, Refused, Retired};
 ghost use Rattle.std.specs.List.{flat_map};
@@ -11,9 +11,10 @@ use crate::serve_ending::ServeEnding;
 use itoa::Buffer;
 use percent_encoding::percent_encode_byte;
 use rv_answering::Answer;
-use rv_base::{Failed, Sink, write_all};
+use rv_base::{Failed, Memory, Sink, write_all};
 use rv_record::Damage;
 use rv_wire::{ErrorBody, closed_text, error_text, retired_text};
+use std::alloc::Global;
 
 fn write_number<O: Sink>(out: &mut O, number: u64) -> Result<(), Failed>
     ensures writes { Writes (O.state out.old) (O.state out.new) result (decimal number) }
@@ -43,7 +44,8 @@ fn write_body<O: Sink>(out: &mut O, body: &[u8]) -> Result<(), Failed>
     }
 }
 
-fn write_line<O: Sink>(out: &mut O, status: u16, body: &[u8]) -> Result<(), Failed>
+// The line of an answer in pieces, which takes no memory.
+fn write_pieces<O: Sink>(out: &mut O, status: u16, body: &[u8]) -> Result<(), Failed>
     ensures writes { Writes (O.state out.old) (O.state out.new) result (line_text status body.now) }
     ensures steady { O.fails_no_more out.old → IsSteady (O.fails_no_more out.new) (O.state out.old) (O.state out.new) result }
 {
@@ -51,44 +53,72 @@ fn write_line<O: Sink>(out: &mut O, status: u16, body: &[u8]) -> Result<(), Fail
     write_body(out, body)
 }
 
-fn write_refusal<O: Sink>(out: &mut O, refusal: &ErrorBody) -> Result<(), Failed>
+// The line of an answer.
+fn whole_line(alloc: Global, status: u16, body: &[u8]) -> Result<Vec<u8>, Memory>
+    ensures { IfOk result (λ line. line.items ≡ line_text status body.now) }
+{
+    let mut buffer = Buffer::new();
+    let mut line = Vec::with_capacity(alloc, body.len().saturating_add(5))?;
+    line.extend_from_slice(buffer.format(u64::from(status)).as_bytes())?;
+    line.push(b' ')?;
+    line.extend_from_slice(body)?;
+    line.push(b'\n')?;
+    Ok(line)
+}
+
+// Writes the line of an answer at once, or in pieces where there is no memory for the whole of it.
+fn write_line<O: Sink>(alloc: Global, out: &mut O, status: u16, body: &[u8]) -> Result<(), Failed>
+    ensures writes { Writes (O.state out.old) (O.state out.new) result (line_text status body.now) }
+    ensures steady { O.fails_no_more out.old → IsSteady (O.fails_no_more out.new) (O.state out.old) (O.state out.new) result }
+{
+    match whole_line(alloc, status, body) {
+        Ok(line) => write_all(out, line.as_slice()),
+        Err(Memory) => write_pieces(out, status, body),
+    }
+}
+
+fn write_refusal<O: Sink>(alloc: Global, out: &mut O, refusal: &ErrorBody) -> Result<(), Failed>
     ensures writes { Writes (O.state out.old) (O.state out.new) result (text_of (Refused refusal.now)) }
     ensures steady { O.fails_no_more out.old → IsSteady (O.fails_no_more out.new) (O.state out.old) (O.state out.new) result }
 {
     let mut buffer = [0; 128];
     let length = error_text(refusal, &mut buffer);
-    write_line(out, refusal.status(), &buffer[..length])
+    write_line(alloc, out, refusal.status(), &buffer[..length])
 }
 
-fn write_retired<O: Sink>(out: &mut O, place: u32) -> Result<(), Failed>
+fn write_retired<O: Sink>(alloc: Global, out: &mut O, place: u32) -> Result<(), Failed>
     ensures writes { Writes (O.state out.old) (O.state out.new) result (text_of (Retired place)) }
     ensures steady { O.fails_no_more out.old → IsSteady (O.fails_no_more out.new) (O.state out.old) (O.state out.new) result }
 {
     let mut buffer = [0; 128];
     let length = retired_text(place, &mut buffer);
-    write_line(out, 200, &buffer[..length])
+    write_line(alloc, out, 200, &buffer[..length])
 }
 
-fn write_closed<O: Sink>(out: &mut O, place: u32) -> Result<(), Failed>
+fn write_closed<O: Sink>(alloc: Global, out: &mut O, place: u32) -> Result<(), Failed>
     ensures writes { Writes (O.state out.old) (O.state out.new) result (text_of (Closed place)) }
     ensures steady { O.fails_no_more out.old → IsSteady (O.fails_no_more out.new) (O.state out.old) (O.state out.new) result }
 {
     let mut buffer = [0; 128];
     let length = closed_text(place, &mut buffer);
-    write_line(out, 200, &buffer[..length])
+    write_line(alloc, out, 200, &buffer[..length])
 }
 
 /// Writes the line of an answer: its status, a space, its body, and LF.
-pub(crate) fn write_answer<O: Sink>(out: &mut O, answer: &Answer) -> Result<(), Failed>
+pub(crate) fn write_answer<O: Sink>(
+    alloc: Global,
+    out: &mut O,
+    answer: &Answer,
+) -> Result<(), Failed>
     ensures writes { Writes (O.state out.old) (O.state out.new) result (text_of answer.now) }
     ensures steady { O.fails_no_more out.old → IsSteady (O.fails_no_more out.new) (O.state out.old) (O.state out.new) result }
 {
     match answer {
-        Answer::Pushed => write_line(out, 200, b"{}"),
-        Answer::Pulled(reply) => write_line(out, 200, reply.text.as_slice()),
-        Answer::Retired(place) => write_retired(out, *place),
-        Answer::Closed(place) => write_closed(out, *place),
-        Answer::Refused(refusal) => write_refusal(out, refusal),
+        Answer::Pushed => write_line(alloc, out, 200, b"{}"),
+        Answer::Pulled(reply) => write_line(alloc, out, 200, reply.text.as_slice()),
+        Answer::Retired(place) => write_retired(alloc, out, *place),
+        Answer::Closed(place) => write_closed(alloc, out, *place),
+        Answer::Refused(refusal) => write_refusal(alloc, out, refusal),
     }
 }
 
@@ -196,7 +226,11 @@ pub(crate) fn write_serve_ending<O: Sink>(out: &mut O, ending: &ServeEnding) -> 
 }
 
 /// Writes the text of an ending of `import`.
-pub(crate) fn write_import_ending<O: Sink>(out: &mut O, ending: &ImportEnding) -> Result<(), Failed>
+pub(crate) fn write_import_ending<O: Sink>(
+    alloc: Global,
+    out: &mut O,
+    ending: &ImportEnding,
+) -> Result<(), Failed>
     ensures writes { Writes (O.state out.old) (O.state out.new) result (import_ending_text ending.now) }
     ensures steady { O.fails_no_more out.old → IsSteady (O.fails_no_more out.new) (O.state out.old) (O.state out.new) result }
 {
@@ -205,7 +239,7 @@ pub(crate) fn write_import_ending<O: Sink>(out: &mut O, ending: &ImportEnding) -
         ImportEnding::Read => write_all(out, b"read\n"),
         ImportEnding::TooLarge => write_all(out, b"csv size\n"),
         ImportEnding::BadRecord(number) => write_count(out, b"csv ", u64::from(*number)),
-        ImportEnding::Refused(refusal) => write_refusal(out, &ErrorBody::Refused(*refusal)),
+        ImportEnding::Refused(refusal) => write_refusal(alloc, out, &ErrorBody::Refused(*refusal)),
         ImportEnding::Memory => write_all(out, b"memory\n"),
         ImportEnding::Write => Ok(()),
     }

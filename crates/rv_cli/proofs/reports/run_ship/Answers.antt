@@ -3,7 +3,7 @@ use Rattle.rv_cli.specs.ReportPromise.{report_statuses}
 use Rattle.rv_cli.proofs.Kept.{as_of, keeps, lines_among, lines_undamaged, refused_keeps}
 use Rattle.rv_cli.proofs.Steady.{lines_is_none, not_four, taken_up}
 use Rattle.rv_keeper.specs.StoreLaws.{others_on}
-use Rattle.std.proofs.Common.{inr, ◌≡◌, ◌∙◌, ap, sym, refl, lit<}
+use Rattle.std.proofs.Common.{inr, ◌∙◌, ap, sym, refl, lit<}
 use Rattle.rv_cli.specs.Headline.{WritesLines}
 use Rattle.rv_cli.proofs.Reporting.{has_reported}
 use Rattle.rv_cli.proofs.Storing.{refused_fails}
