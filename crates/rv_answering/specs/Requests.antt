@@ -9,7 +9,7 @@ use Rattle.serde_json.specs.Find.{as_object, as_bool}
 use Rattle.rv_base.specs.Options.{◌>>=◌}
 use Rattle.rv_base.specs.Schemas.{first_schemas}
 use Rattle.rv_rows.specs.Members.{text_in}
-use Rattle.rv_rows.specs.JsonTexts.{json_in}
+use Rattle.rv_json.specs.JsonTexts.{json_in}
 use Rattle.rv_wire.specs.Bodies.{push_in, pull_in}
 use Rattle.rv_wire.specs.declared.fault.WireFault.{WireFault}
 use Rattle.rv_wire.specs.declared.push.Push as pushes

@@ -1,18 +1,18 @@
 // From the bytes of a line to what it asks.
 ghost use Rattle.std.specs.Prelude.{◌≡◌, IfOk, option_map};
-ghost use Rattle.serde_json.specs.View.{view, members_view};
+ghost use Rattle.rv_json.specs.ValueData.{value_data, members_data};
 ghost use Rattle.rv_answering.specs.Requests.{verb_of, body_asks, one_member, two_members, retire_asked, stop_asked, close_asked, one_asks, body_asked, members_ask, value_asks, line_of};
 ghost use Rattle.rv_answering.specs.Reads.{IsReading, AreReadings, AreLines};
 
 use crate::line::Line;
 use crate::request::Request;
 use crate::schemas::FeedSchemas;
+use json::{Scratch, Value};
 use rv_base::{Memory, User};
-use rv_rows::{read_json, text_of_value};
+use rv_json::{Members, flag, members, read_json};
+use rv_rows::text_of_value;
 use rv_wire::{WireFault, pull_of_value, push_of_value};
-use serde_json::Value;
 use std::alloc::Global;
-use std::collections::BTreeMap;
 
 /// What a line of the form asks: a request, or the first thing that is wrong with its body.
 pub type Parsed = Result<Request, WireFault>;
@@ -37,8 +37,8 @@ fn verb_of(name: &str) -> Option<Verb>
 }
 
 // The request of a user's body.
-fn body_asks(alloc: Global, verb: Verb, user: User, body: &Value) -> Parsed
-    ensures { IsReading (body_asks verb user (view body.now)) result }
+fn body_asks(alloc: Global, verb: Verb, user: User, body: &Value<'_>) -> Parsed
+    ensures { IsReading (body_asks verb user (value_data body.now)) result }
 {
     match verb {
         Verb::Push => match push_of_value(alloc, body, &FeedSchemas) {
@@ -53,8 +53,10 @@ fn body_asks(alloc: Global, verb: Verb, user: User, body: &Value) -> Parsed
 }
 
 /// The names and values of an object's members, where it has two, in the order of the names. Takes no memory.
-pub fn two_members(members: &BTreeMap<String, Value>) -> Option<(&str, &Value, &str, &Value)>
-    ensures { option_map (λ t. ((t.0.now, view t.1.now), (t.2.now, view t.3.now))) result ≡ two_members (members_view members.now.entries) }
+pub fn two_members<'v, 't>(
+    members: &Members<'v, 't>,
+) -> Option<(&'t str, &'v Value<'t>, &'t str, &'v Value<'t>)>
+    ensures { option_map (λ t. ((t.0.now, value_data t.1.now), (t.2.now, value_data t.3.now))) result ≡ two_members (members_data members.now.entries) }
 {
     let mut left = members.iter();
     let (first, first_value) = left.next()?;
@@ -62,13 +64,13 @@ pub fn two_members(members: &BTreeMap<String, Value>) -> Option<(&str, &Value, &
     if left.next().is_some() {
         return None;
     }
-    Some((first.as_str(), first_value, second.as_str(), second_value))
+    Some((*first, *first_value, *second, *second_value))
 }
 
 // A push or a pull, where the members are those of one up to its body.
 #[tactic(auto, unfolding(crate::specs::Requests::body_asked))]
-fn body_asked(alloc: Global, members: &BTreeMap<String, Value>) -> Result<Option<Parsed>, Memory>
-    ensures { IfOk result (λ read. AreReadings (body_asked (members_view members.now.entries)) read) }
+fn body_asked(alloc: Global, members: &Members<'_, '_>) -> Result<Option<Parsed>, Memory>
+    ensures { IfOk result (λ read. AreReadings (body_asked (members_data members.now.entries)) read) }
 {
     let Some((name, body, second, user)) = two_members(members) else {
         return Ok(None);
@@ -86,8 +88,8 @@ fn body_asked(alloc: Global, members: &BTreeMap<String, Value>) -> Result<Option
 }
 
 // A retirement, where this is the one member of one.
-fn retire_asked(alloc: Global, name: &str, group: &Value) -> Result<Option<Parsed>, Memory>
-    ensures { IfOk result (λ read. AreReadings (retire_asked name.now (view group.now)) read) }
+fn retire_asked(alloc: Global, name: &str, group: &Value<'_>) -> Result<Option<Parsed>, Memory>
+    ensures { IfOk result (λ read. AreReadings (retire_asked name.now (value_data group.now)) read) }
 {
     if name != "retire" {
         return Ok(None);
@@ -99,21 +101,17 @@ fn retire_asked(alloc: Global, name: &str, group: &Value) -> Result<Option<Parse
 }
 
 // A stop, where this is the value of one.
-fn stop_asked(value: &Value) -> Option<Line>
-    ensures { AreLines (stop_asked (view value.now)) result }
+fn stop_asked(value: &Value<'_>) -> Option<Line>
+    ensures { AreLines (stop_asked (value_data value.now)) result }
 {
-    if value.as_bool()? {
-        Some(Line::Stop)
-    } else {
-        None
-    }
+    if flag(value)? { Some(Line::Stop) } else { None }
 }
 
 // The closing of the book, where this is the value of one.
-fn close_asked(value: &Value) -> Option<Line>
-    ensures { AreLines (close_asked (view value.now)) result }
+fn close_asked(value: &Value<'_>) -> Option<Line>
+    ensures { AreLines (close_asked (value_data value.now)) result }
 {
-    if value.as_bool()? {
+    if flag(value)? {
         Some(Line::Asks(Ok(Request::Close)))
     } else {
         None
@@ -121,8 +119,8 @@ fn close_asked(value: &Value) -> Option<Line>
 }
 
 // What the one member of an object asks.
-fn one_asks(alloc: Global, name: &str, value: &Value) -> Result<Option<Line>, Memory>
-    ensures { IfOk result (λ read. AreLines (one_asks name.now (view value.now)) read) }
+fn one_asks(alloc: Global, name: &str, value: &Value<'_>) -> Result<Option<Line>, Memory>
+    ensures { IfOk result (λ read. AreLines (one_asks name.now (value_data value.now)) read) }
 {
     if name == "stop" {
         return Ok(stop_asked(value));
@@ -134,20 +132,20 @@ fn one_asks(alloc: Global, name: &str, value: &Value) -> Result<Option<Line>, Me
 }
 
 /// The name and the value of an object's member, where it has one. Takes no memory.
-pub fn one_member(members: &BTreeMap<String, Value>) -> Option<(&str, &Value)>
-    ensures { option_map (λ t. (t.0.now, view t.1.now)) result ≡ one_member (members_view members.now.entries) }
+pub fn one_member<'v, 't>(members: &Members<'v, 't>) -> Option<(&'t str, &'v Value<'t>)>
+    ensures { option_map (λ t. (t.0.now, value_data t.1.now)) result ≡ one_member (members_data members.now.entries) }
 {
     let mut left = members.iter();
     let (name, value) = left.next()?;
     if left.next().is_some() {
         return None;
     }
-    Some((name.as_str(), value))
+    Some((*name, *value))
 }
 
 // What an object's members ask.
-fn members_ask(alloc: Global, members: &BTreeMap<String, Value>) -> Result<Option<Line>, Memory>
-    ensures { IfOk result (λ read. AreLines (members_ask (members_view members.now.entries)) read) }
+fn members_ask(alloc: Global, members: &Members<'_, '_>) -> Result<Option<Line>, Memory>
+    ensures { IfOk result (λ read. AreLines (members_ask (members_data members.now.entries)) read) }
 {
     match one_member(members) {
         Some((name, value)) => one_asks(alloc, name, value),
@@ -159,14 +157,16 @@ fn members_ask(alloc: Global, members: &BTreeMap<String, Value>) -> Result<Optio
 ///
 /// Memory that is refused in reading the line's JSON or its user is the error; memory that is refused in reading a body from
 /// its JSON value is [`WireFault::Memory`], which is answered like other faults.
-pub fn line_of(alloc: Global, line: &[u8]) -> Result<Option<Line>, Memory>
+///
+/// `scratch` is room to read in, which is kept from one text to the next.
+pub fn line_of(alloc: Global, line: &[u8], scratch: &mut Scratch) -> Result<Option<Line>, Memory>
     ensures { IfOk result (λ read. AreLines (line_of line.now) read) }
 {
-    let Some(value) = read_json(alloc, line)? else {
+    let Some(value) = read_json(alloc, line, scratch)? else {
         return Ok(None);
     };
-    match value.as_object() {
-        Some(members) => members_ask(alloc, members),
+    match members(alloc, &value)? {
+        Some(members) => members_ask(alloc, &members),
         None => Ok(None),
     }
 }

@@ -7,6 +7,7 @@ ghost use Rattle.rv_cli.specs.Steadiness.{LineIsSteady, LineKeepsSteady};
 use crate::ending::Ending;
 use crate::line_taker::LineTaker;
 use crate::texts::write_answer;
+use json::Scratch;
 use rv_answering::Answer;
 use rv_base::{Failed, Memory, Sink};
 use rv_following::{Follower, follow_line_of};
@@ -19,18 +20,19 @@ fn take_line<O: Sink>(
     follower: &mut Follower,
     line: &[u8],
     number: u64,
+    scratch: &mut Scratch,
     out: &mut O,
 ) -> Result<(), Ending>
     ensures takes { TakesLine follower_taker follower.old line.now number result follower.new (O.state out.old) (O.state out.new) }
     ensures steady { O.fails_no_more out.old → LineIsSteady (O.fails_no_more out.new) (O.state out.old).refusals (O.state out.new).refusals result }
     ensures steady_follower { LineKeepsSteady (Unit {0}) 0 0 result }
 {
-    let read = match follow_line_of(alloc, line) {
+    let read = match follow_line_of(alloc, line, scratch) {
         Ok(Some(read)) => read,
         Ok(None) => return Err(Ending::Malformed(number)),
         Err(Memory) => return Err(Ending::Memory),
     };
-    match follower.take(read) {
+    match follower.take(read, scratch) {
         Ok(Some(answer)) => match write_answer(alloc, out, &answer) {
             Ok(()) => Ok(()),
             Err(Failed) => Err(Ending::Write),
@@ -51,9 +53,10 @@ impl LineTaker for Follower {
         alloc: Global,
         line: &[u8],
         number: u64,
+        scratch: &mut Scratch,
         out: &mut O,
     ) -> Result<(), Ending> {
-        take_line(alloc, self, line, number, out)
+        take_line(alloc, self, line, number, scratch, out)
     }
 
     ghost takes_later = { follower_takes_later };

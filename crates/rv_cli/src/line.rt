@@ -9,6 +9,7 @@ ghost use Rattle.rv_cli.specs.Steadiness.{DeskKeepsSteady, LineIsSteady, LineKee
 use crate::ending::Ending;
 use crate::line_taker::LineTaker;
 use crate::texts::write_answer;
+use json::Scratch;
 use rv_answering::{Line, Parsed, line_of, serve_asked};
 use rv_base::{Failed, Memory, Sink};
 use rv_desk::Desk;
@@ -50,13 +51,14 @@ fn take_line<K: Keeper, O: Sink>(
     desk: &mut Desk<K>,
     line: &[u8],
     number: u64,
+    scratch: &mut Scratch,
     out: &mut O,
 ) -> Result<(), Ending>
     ensures takes { TakesLine (desk_taker K.Keeper) desk.old line.now number result desk.new (O.state out.old) (O.state out.new) }
     ensures steady { O.fails_no_more out.old → LineIsSteady (O.fails_no_more out.new) (O.state out.old).refusals (O.state out.new).refusals result }
     ensures steady_keeper { K.fails_no_more desk.old.keeper → LineKeepsSteady (K.fails_no_more desk.new.keeper) (K.faults desk.old.keeper) (K.faults desk.new.keeper) result }
 {
-    match line_of(alloc, line) {
+    match line_of(alloc, line, scratch) {
         Ok(Some(Line::Asks(read))) => serve(alloc, desk, read, out),
         Ok(Some(Line::Stop)) => restart(desk),
         Ok(None) => Err(Ending::Malformed(number)),
@@ -74,9 +76,10 @@ impl<K: Keeper> LineTaker for Desk<K> {
         alloc: Global,
         line: &[u8],
         number: u64,
+        scratch: &mut Scratch,
         out: &mut O,
     ) -> Result<(), Ending> {
-        take_line(alloc, self, line, number, out)
+        take_line(alloc, self, line, number, scratch, out)
     }
 
     ghost takes_later = { desk_takes_later K.tells };

@@ -2,6 +2,7 @@ ghost use Rattle.rv_cli.specs.LineTaking.{Taker, TakesLater, TakesLine};
 ghost use Rattle.rv_cli.specs.Steadiness.{LineIsSteady, LineKeepsSteady};
 
 use crate::ending::Ending;
+use json::Scratch;
 use rv_base::Sink;
 use std::alloc::Global;
 
@@ -16,6 +17,7 @@ pub(crate) trait LineTaker {
         alloc: Global,
         line: &[u8],
         number: u64,
+        scratch: &mut Scratch,
         out: &mut O,
     ) -> Result<(), Ending>
         ensures takes { TakesLine taker self.old line.now number result self.new (O.state out.old) (O.state out.new) }

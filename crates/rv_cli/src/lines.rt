@@ -5,6 +5,7 @@ ghost use Rattle.rv_cli.specs.Steadiness.{InputIsSteady, KeeperIsSteady, OutputI
 
 use crate::ending::Ending;
 use crate::line_taker::LineTaker;
+use json::Scratch;
 use rv_base::{Fault, Sink, Source};
 use rv_lines::{LineReader, Next};
 use std::alloc::Global;
@@ -39,9 +40,10 @@ pub(crate) fn take_lines<T: LineTaker, S: Source, O: Sink>(
     ensures steady_taker { T.taker.fails_no_more taker.old → KeeperIsSteady T.taker.fails_no_more T.taker.faults taker.old (result, taker.new) }
 {
     let mut reader = LineReader::new(alloc);
+    let mut scratch = Scratch::new(alloc);
     for number in 1..LINES_END {
         match found(reader.next(input), number) {
-            Ok(is_last) => match taker.take(alloc, reader.line(), number, out) {
+            Ok(is_last) => match taker.take(alloc, reader.line(), number, &mut scratch, out) {
                 Ok(()) if is_last => return Ending::Done,
                 Ok(()) => {}
                 Err(ending) => return ending,

@@ -53,6 +53,9 @@ fn write_pieces<O: Sink>(out: &mut O, status: u16, body: &[u8]) -> Result<(), Fa
     write_body(out, body)
 }
 
+// The longest body that is copied so that its line is one write: as much as a pipe of Linux takes at once.
+const ONE_WRITE: usize = 65_536;
+
 // The line of an answer.
 fn whole_line(alloc: Global, status: u16, body: &[u8]) -> Result<Vec<u8>, Memory>
     ensures { IfOk result (λ line. line.items ≡ line_text status body.now) }
@@ -66,11 +69,14 @@ fn whole_line(alloc: Global, status: u16, body: &[u8]) -> Result<Vec<u8>, Memory
     Ok(line)
 }
 
-// Writes the line of an answer at once, or in pieces where there is no memory for the whole of it.
+// Writes the line of an answer at once, or in pieces where it is longer than a pipe takes at once or there is no memory for the whole of it.
 fn write_line<O: Sink>(alloc: Global, out: &mut O, status: u16, body: &[u8]) -> Result<(), Failed>
     ensures writes { Writes (O.state out.old) (O.state out.new) result (line_text status body.now) }
     ensures steady { O.fails_no_more out.old → IsSteady (O.fails_no_more out.new) (O.state out.old) (O.state out.new) result }
 {
+    if body.len() > ONE_WRITE {
+        return write_pieces(out, status, body);
+    }
     match whole_line(alloc, status, body) {
         Ok(line) => write_all(out, line.as_slice()),
         Err(Memory) => write_pieces(out, status, body),

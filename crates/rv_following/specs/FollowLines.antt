@@ -6,7 +6,7 @@ use Rattle.serde_json.specs.Data.{Data, Items, item, no_items, Members}
 use Rattle.serde_json.specs.Find.{as_array, as_object, as_bool, as_str, as_number, as_u64}
 use Rattle.rv_base.specs.Options.{◌>>=◌}
 use Rattle.rv_rows.specs.Members.{text_in}
-use Rattle.rv_rows.specs.JsonTexts.{json_in}
+use Rattle.rv_json.specs.JsonTexts.{json_in}
 use Rattle.rv_wire.specs.Bodies.{pull_in}
 use Rattle.rv_answering.specs.Requests.{one_member, serves, two_members}
 use Rattle.rv_keeper.specs.declared.cell.Cell.{Cell}

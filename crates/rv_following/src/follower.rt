@@ -8,6 +8,7 @@ ghost use Rattle.rv_following.specs.FollowReads.{IsFollowLine};
 ghost use Rattle.rv_following.specs.FollowSteps.{AnswersPull, Following, Follows, Gathers, TakesCell, TakesPageLine, TakesPull};
 
 use crate::follow_line::{FollowLine, ParsedPull};
+use json::Scratch;
 use rv_answering::Answer;
 use rv_base::{Steps, User};
 use rv_keeper::Cell;
@@ -68,13 +69,13 @@ impl Follower {
     }
 
     // Takes the cell of an entry.
-    fn enter(&mut self, cell: &Cell) -> Result<(), TakeFault>
+    fn enter(&mut self, cell: &Cell, scratch: &mut Scratch) -> Result<(), TakeFault>
         ensures { TakesCell self.old cell.now result self.new }
     {
         if !self.gathered.is_empty() {
             return Err(TakeFault::Refused);
         }
-        self.standby.take(cell)?;
+        self.standby.take(cell, scratch)?;
         Ok(())
     }
 
@@ -110,13 +111,13 @@ impl Follower {
     }
 
     // Takes a cell: one of a page is gathered, any other is that of an entry.
-    fn take_cell(&mut self, cell: Cell) -> Result<Option<Answer>, TakeFault>
+    fn take_cell(&mut self, cell: Cell, scratch: &mut Scratch) -> Result<Option<Answer>, TakeFault>
         ensures { Follows self.old (lines.Cell cell) result self.new }
     {
         if is_on_page(&cell) {
             self.gather(cell)?;
         } else {
-            self.enter(&cell)?;
+            self.enter(&cell, scratch)?;
         }
         Ok(None)
     }
@@ -133,16 +134,22 @@ impl Follower {
 
     /// Takes what was read of a line, and gives the answer to a pull.
     ///
+    /// `scratch` is room to read in, which is kept from one line to the next.
+    ///
     /// # Errors
     ///
     /// `Refused` where the line may not come next: a cell of a page over a book that is not empty, the cell of an entry that may not come
     /// next, that a page is whole whose cells are those of no sound page, and anything else than these between the cells of a page. `Memory`
     /// where memory was refused. Then all is as it was.
-    pub fn take(&mut self, line: FollowLine) -> Result<Option<Answer>, TakeFault>
+    pub fn take(
+        &mut self,
+        line: FollowLine,
+        scratch: &mut Scratch,
+    ) -> Result<Option<Answer>, TakeFault>
         ensures { (asked : FollowLine) → IsFollowLine asked line → Follows self.old asked result self.new }
     {
         match line {
-            FollowLine::Cell(cell) => self.take_cell(cell),
+            FollowLine::Cell(cell) => self.take_cell(cell, scratch),
             FollowLine::Page => {
                 self.open()?;
                 Ok(None)

@@ -1,6 +1,6 @@
 // The row that a record is of.
 ghost use Rattle.std.specs.Prelude.{◌≡◌, ◌↔◌, ◌∷◌, [], List, ℕ, IfOk, IfSome, IfNone, IsTrue};
-ghost use Rattle.serde_json.specs.View.{view};
+ghost use Rattle.rv_json.specs.ValueData.{value_data};
 ghost use Rattle.serde_json.specs.Written.{compact_text};
 ghost use Rattle.rv_rows.specs.declared.row.Row.{Row};
 ghost use Rattle.rv_rows.specs.Keys.{row_text};
@@ -11,9 +11,10 @@ ghost use Rattle.rv_import.specs.RowReading.{row_text_in};
 
 use crate::texts::row_json;
 use csv::ByteRecord;
+use json::{Scratch, Value};
 use rv_base::Memory;
-use rv_rows::{Row, read_json, read_row};
-use serde_json::Value;
+use rv_json::read_json;
+use rv_rows::{Row, read_row};
 use std::alloc::Global;
 
 // Every row's texts are UTF-8 and within their bounds.
@@ -45,17 +46,17 @@ pub(crate) fn is_row(row: &Row)
 }
 
 // The row that a value is, where it is exactly the value of one.
-fn row_of_value(alloc: Global, value: &Value) -> Result<Option<Row>, Memory>
-    ensures { IfOk result (λ o. o ≡ row_in (view value.now)) }
+fn row_of_value(alloc: Global, value: &Value<'_>) -> Result<Option<Row>, Memory>
+    ensures { IfOk result (λ o. o ≡ row_in (value_data value.now)) }
 {
     read_row(alloc, value)
 }
 
 // The row whose JSON the text is, spaced and spelled in any way.
-fn row_of_json(alloc: Global, text: &[u8]) -> Result<Option<Row>, Memory>
+fn row_of_json(alloc: Global, text: &[u8], scratch: &mut Scratch) -> Result<Option<Row>, Memory>
     ensures { IfOk result (λ o. o ≡ row_text_in text.now) }
 {
-    match read_json(alloc, text)? {
+    match read_json(alloc, text, scratch)? {
         Some(value) => row_of_value(alloc, &value),
         None => Ok(None),
     }
@@ -69,11 +70,11 @@ fn is_same(one: &[u8], other: &[u8]) -> bool
 }
 
 // The row whose text this is, if it is that of one.
-fn row_of_text(alloc: Global, text: &[u8]) -> Result<Option<Row>, Memory>
+fn row_of_text(alloc: Global, text: &[u8], scratch: &mut Scratch) -> Result<Option<Row>, Memory>
     ensures found { IfOk result (λ o. IfSome o (λ row. IsRow row × (text.now ≡ compact_text (row_data row)))) }
     ensures none { IfOk result (λ o. IfNone o ((row : Row) → IsRow row → ¬ (text.now ≡ compact_text (row_data row)))) }
 {
-    let Some(row) = row_of_json(alloc, text)? else {
+    let Some(row) = row_of_json(alloc, text, scratch)? else {
         return Ok(None);
     };
     is_row(&row);
@@ -99,14 +100,18 @@ pub(crate) fn two_fields(fields: &ByteRecord) -> Option<(&[u8], &[u8])>
 }
 
 // The row whose record this is, if it is that of one.
-pub(crate) fn row_of_record(alloc: Global, fields: &ByteRecord) -> Result<Option<Row>, Memory>
+pub(crate) fn row_of_record(
+    alloc: Global,
+    fields: &ByteRecord,
+    scratch: &mut Scratch,
+) -> Result<Option<Row>, Memory>
     ensures found { IfOk result (λ o. IfSome o (λ row. IsRow row × (fields_of fields.now ≡ row_record row))) }
     ensures none { IfOk result (λ o. IfNone o ((row : Row) → IsRow row → ¬ (fields_of fields.now ≡ row_record row))) }
 {
     let Some((key, value)) = two_fields(fields) else {
         return Ok(None);
     };
-    let Some(row) = row_of_text(alloc, value)? else {
+    let Some(row) = row_of_text(alloc, value, scratch)? else {
         return Ok(None);
     };
     let own = row.kind().key_text(alloc, row.id())?;

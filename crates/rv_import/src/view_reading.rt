@@ -14,6 +14,7 @@ use crate::row_reading::{row_of_record, two_fields};
 use crate::view::View;
 use crate::view_fault::ViewFault;
 use csv::ByteRecord;
+use json::Scratch;
 use rv_base::{Memory, Sequence};
 use rv_rows::Row;
 use std::alloc::Global;
@@ -47,11 +48,16 @@ fn may_follow(rows: &[Row], row: &Row) -> bool
 }
 
 // The row whose record this is, where it may come after these rows.
-fn row_after(alloc: Global, rows: &[Row], fields: &ByteRecord) -> Result<Option<Row>, Memory>
+fn row_after(
+    alloc: Global,
+    rows: &[Row],
+    fields: &ByteRecord,
+    scratch: &mut Scratch,
+) -> Result<Option<Row>, Memory>
     ensures found { IsView rows.now → IfOk result (λ o. IfSome o (λ row. IsView (rows.now ++ row ∷ []) × (fields_of fields.now ≡ row_record row))) }
     ensures none { IsView rows.now → IfOk result (λ o. IfNone o (CantFollow rows.now (fields_of fields.now))) }
 {
-    let Some(row) = row_of_record(alloc, fields)? else {
+    let Some(row) = row_of_record(alloc, fields, scratch)? else {
         return Ok(None);
     };
     if may_follow(rows, &row) {
@@ -82,13 +88,14 @@ fn next_row(
     records: &mut Records<'_>,
     fields: &mut ByteRecord,
     rows: &[Row],
+    scratch: &mut Scratch,
 ) -> Result<Option<Row>, ViewFault>
     ensures { IsView rows.now → NextRow rows.now records.old records.new result }
 {
     if !records.read(fields)? {
         return Ok(None);
     }
-    match row_after(alloc, rows, fields)? {
+    match row_after(alloc, rows, fields, scratch)? {
         Some(row) => Ok(Some(row)),
         None => Err(ViewFault::BadRecord(rows.len() as u64 + 1)),
     }
@@ -100,11 +107,12 @@ fn rows_of(alloc: Global, bytes: &[u8]) -> Result<View, ViewFault>
 {
     let mut records = Records::new(alloc, bytes);
     let mut fields = ByteRecord::new(alloc);
+    let mut scratch = Scratch::new(alloc);
     if !go_past_header(&mut records, &mut fields)? {
         return Err(ViewFault::BadRecord(0));
     }
     let mut rows = Vec::new(alloc);
-    while let Some(row) = next_row(alloc, &mut records, &mut fields, &rows)? {
+    while let Some(row) = next_row(alloc, &mut records, &mut fields, &rows, &mut scratch)? {
         add(&mut rows, row)?;
     }
     Ok(Sequence::from_vec(rows))

@@ -6,6 +6,7 @@ ghost use Rattle.rv_opening.specs.PageReads.{BeginsWith, Follows, HasBegun, Take
 
 use crate::checking::{client_follows, is_within, row_follows};
 use crate::fitting::{client_fits, group_fits, place_fits, row_fits};
+use json::Scratch;
 use rv_base::Sequence;
 use rv_book::Page;
 use rv_keeper::Cell;
@@ -33,10 +34,15 @@ pub struct PageRead {
 
 impl PageRead {
     // The page whose place the first cell tells, and which has nothing yet.
-    pub(crate) fn begin(alloc: Global, cell: &Cell, limit: u32) -> Result<PageRead, CellFault>
+    pub(crate) fn begin(
+        alloc: Global,
+        cell: &Cell,
+        limit: u32,
+        scratch: &mut Scratch,
+    ) -> Result<PageRead, CellFault>
         ensures { (cells : List Cell) → InOrder cell_key cells → BeginsWith limit cells cell.now result }
     {
-        let at = page_of_cell(alloc, cell)?;
+        let at = page_of_cell(alloc, cell, scratch)?;
         place_fits(at);
         if !is_within(u64::from(at), limit) {
             return Err(damaged(alloc, cell));
@@ -53,11 +59,16 @@ impl PageRead {
     }
 
     // Takes the cell of a row.
-    fn take_row(&mut self, alloc: Global, cell: &Cell) -> Result<(), CellFault>
+    fn take_row(
+        &mut self,
+        alloc: Global,
+        cell: &Cell,
+        scratch: &mut Scratch,
+    ) -> Result<(), CellFault>
         requires shelf { cell.now.shelf ≡ 7 }
         ensures { (limit : ℕ) (cells : List Cell) → HasBegun limit cells self.old → Follows self.old.page cell.now → TakesNext limit cells self.old.page cell.now result self.new }
     {
-        let (row, version) = page_row_of_cell(alloc, cell)?;
+        let (row, version) = page_row_of_cell(alloc, cell, scratch)?;
         row_fits(&row, version);
         if !row_follows(&self.tables, self.page.at, &row, version) {
             return Err(damaged(alloc, cell));
@@ -69,12 +80,18 @@ impl PageRead {
     }
 
     // Takes the cell of a client, whose group has a cell among these.
-    fn take_client(&mut self, alloc: Global, cell: &Cell, cells: &[Cell]) -> Result<(), CellFault>
+    fn take_client(
+        &mut self,
+        alloc: Global,
+        cell: &Cell,
+        cells: &[Cell],
+        scratch: &mut Scratch,
+    ) -> Result<(), CellFault>
         requires shelf { cell.now.shelf ≡ 8 }
         requires order { InOrder cell_key cells.now }
         ensures { (limit : ℕ) → HasBegun limit cells.now self.old → Follows self.old.page cell.now → TakesNext limit cells.now self.old.page cell.now result self.new }
     {
-        let (client, group, last) = page_client_of_cell(alloc, cell)?;
+        let (client, group, last) = page_client_of_cell(alloc, cell, scratch)?;
         client_fits(&client, &group, last);
         if !client_follows(cells, self.page.at, &group, last) {
             return Err(damaged(alloc, cell));
@@ -84,11 +101,16 @@ impl PageRead {
     }
 
     // Takes the cell of a group.
-    fn take_group(&mut self, alloc: Global, cell: &Cell) -> Result<(), CellFault>
+    fn take_group(
+        &mut self,
+        alloc: Global,
+        cell: &Cell,
+        scratch: &mut Scratch,
+    ) -> Result<(), CellFault>
         requires shelf { cell.now.shelf ≡ 9 }
         ensures { (limit : ℕ) (cells : List Cell) → HasBegun limit cells self.old → Follows self.old.page cell.now → TakesNext limit cells self.old.page cell.now result self.new }
     {
-        let (group, user, order, retired) = page_group_of_cell(alloc, cell)?;
+        let (group, user, order, retired) = page_group_of_cell(alloc, cell, scratch)?;
         group_fits(&group, &user, order, retired);
         self.page.groups.push((group, user, order, retired))?;
         Ok(())
@@ -100,18 +122,19 @@ impl PageRead {
         alloc: Global,
         cell: &Cell,
         cells: &[Cell],
+        scratch: &mut Scratch,
     ) -> Result<(), CellFault>
         requires { InOrder cell_key cells.now }
         ensures { (limit : ℕ) → HasBegun limit cells.now self.old → Follows self.old.page cell.now → TakesNext limit cells.now self.old.page cell.now result self.new }
     {
         if cell.shelf == ROWS {
-            return self.take_row(alloc, cell);
+            return self.take_row(alloc, cell, scratch);
         }
         if cell.shelf == CLIENTS {
-            return self.take_client(alloc, cell, cells);
+            return self.take_client(alloc, cell, cells, scratch);
         }
         if cell.shelf == GROUPS {
-            return self.take_group(alloc, cell);
+            return self.take_group(alloc, cell, scratch);
         }
         Err(damaged(alloc, cell))
     }

@@ -5,6 +5,7 @@ ghost use Rattle.rv_keeper.specs.Cells.{cell_key};
 ghost use Rattle.rv_opening.specs.PageReads.{ReadsPage};
 
 use crate::page_read::PageRead;
+use json::Scratch;
 use rv_keeper::Cell;
 use rv_record::CellFault;
 use std::alloc::Global;
@@ -19,9 +20,10 @@ pub fn read_page(alloc: Global, cells: &[Cell], limit: u32) -> Result<Option<Pag
     let Some((first, rest)) = cells.split_first() else {
         return Ok(None);
     };
-    let mut read = PageRead::begin(alloc, first, limit)?;
+    let mut scratch = Scratch::new(alloc);
+    let mut read = PageRead::begin(alloc, first, limit, &mut scratch)?;
     for cell in rest {
-        read.take(alloc, cell, cells)?;
+        read.take(alloc, cell, cells, &mut scratch)?;
     }
     Ok(Some(read))
 }

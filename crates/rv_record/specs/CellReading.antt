@@ -5,7 +5,7 @@ use Rattle.std.specs.Str.{IsUtf8, bytes_eq}
 use Rattle.rv_base.specs.Options.{◌>>=◌}
 use Rattle.rv_base.specs.Texts.{IsWithin}
 use Rattle.rv_keeper.specs.declared.cell.Cell.{Cell}
-use Rattle.rv_rows.specs.JsonTexts.{json_in}
+use Rattle.rv_json.specs.JsonTexts.{json_in}
 use Rattle.rv_record.specs.declared.fault.CellFault.{CellFault}
 use Rattle.rv_record.specs.declared.fault.CellFault.TheVariants.{BadCell, Memory}
 use Rattle.rv_record.specs.declared.fault.Damage.{Damage}

@@ -19,7 +19,7 @@ use Rattle.serde_json.specs.Written.{outline, items_outline, members_outline, co
 use Rattle.serde_json.proofs.Numbers.{number_of-decimal}
 use Rattle.serde_json.proofs.Texts.{print-outline}
 use Rattle.serde_json.specs.View.{items_of}
-use Rattle.rv_rows.specs.JsonTexts.{json_in, json_some}
+use Rattle.rv_json.specs.JsonTexts.{json_in, json_some}
 use Rattle.rv_rows.specs.RowTexts.{ids_data}
 
 -- the members put in one after another

@@ -8,7 +8,7 @@ use Rattle.rv_base.specs.Options.{◌>>=◌}
 use Rattle.rv_base.specs.Sorted.{is_in_order}
 use Rattle.rv_rows.specs.Keys.{prefix}
 use Rattle.rv_rows.specs.Members.{each_item}
-use Rattle.rv_rows.specs.JsonTexts.{json_in}
+use Rattle.rv_json.specs.JsonTexts.{json_in}
 use Rattle.rv_rows.specs.declared.key.Key.{Key}
 use Rattle.rv_rows.specs.declared.key.Kind.{Kind}
 use Rattle.rv_rows.specs.declared.key.Kind.TheVariants as kinds

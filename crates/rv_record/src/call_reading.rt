@@ -1,25 +1,26 @@
 ghost use Rattle.std.specs.Prelude.{◌≡◌, IfOk, option_and_then};
 ghost use Rattle.serde_json.specs.Find.{at, as_bool};
-ghost use Rattle.serde_json.specs.View.{view};
+ghost use Rattle.rv_json.specs.ValueData.{value_data};
 ghost use Rattle.rv_rows.specs.Members.{text_in, num_in, lists_in};
 ghost use Rattle.rv_record.specs.ValueReading.{or_null, text_item};
 ghost use Rattle.rv_record.specs.EntryReading.{stored_create_list_in, stored_create_share_in, stored_update_share_in, stored_create_todo_in, stored_update_todo_in, stored_set_extent_in, void_with, stored_call_with, stored_call_in};
 
 use crate::value_reading::{flag_item, role_item, string_item, text_item};
+use json::Value;
 use rv_base::{Id, Memory, Num, Text};
+use rv_json::{flag, is_null, item};
 use rv_rows::{Call, Lists, Reason, lists_of_value, num_of_value, role_or_edit, text_of_value};
-use serde_json::Value;
 use std::alloc::Global;
 
-fn id_of(alloc: Global, value: &Value) -> Result<Option<Id>, Memory>
-    ensures { IfOk result (λ o. o ≡ text_item 1 128 1 (view value.now)) }
+fn id_of(alloc: Global, value: &Value<'_>) -> Result<Option<Id>, Memory>
+    ensures { IfOk result (λ o. o ≡ text_item 1 128 1 (value_data value.now)) }
 {
     text_item(alloc, value, 1)
 }
 
 #[tactic(auto, unfolding(crate::specs::EntryReading::stored_create_list_in))]
-fn create_list(alloc: Global, value: &Value) -> Result<Option<Call>, Memory>
-    ensures { IfOk result (λ o. o ≡ stored_create_list_in (view value.now)) }
+fn create_list(alloc: Global, value: &Value<'_>) -> Result<Option<Call>, Memory>
+    ensures { IfOk result (λ o. o ≡ stored_create_list_in (value_data value.now)) }
 {
     let Some(id) = text_item(alloc, value, 1)? else {
         return Ok(None);
@@ -34,8 +35,8 @@ fn create_list(alloc: Global, value: &Value) -> Result<Option<Call>, Memory>
 }
 
 #[tactic(auto, unfolding(crate::specs::EntryReading::stored_create_share_in))]
-fn create_share(alloc: Global, value: &Value) -> Result<Option<Call>, Memory>
-    ensures { IfOk result (λ o. o ≡ stored_create_share_in (view value.now)) }
+fn create_share(alloc: Global, value: &Value<'_>) -> Result<Option<Call>, Memory>
+    ensures { IfOk result (λ o. o ≡ stored_create_share_in (value_data value.now)) }
 {
     let Some(id) = text_item(alloc, value, 1)? else {
         return Ok(None);
@@ -46,7 +47,7 @@ fn create_share(alloc: Global, value: &Value) -> Result<Option<Call>, Memory>
     let Some(user) = text_item(alloc, value, 3)? else {
         return Ok(None);
     };
-    let Some(role) = role_or_edit(value.get(4)) else {
+    let Some(role) = role_or_edit(item(value, 4)) else {
         return Ok(None);
     };
     Ok(Some(Call::CreateShare {
@@ -58,8 +59,8 @@ fn create_share(alloc: Global, value: &Value) -> Result<Option<Call>, Memory>
 }
 
 #[tactic(auto, unfolding(crate::specs::EntryReading::stored_update_share_in))]
-fn update_share(alloc: Global, value: &Value) -> Result<Option<Call>, Memory>
-    ensures { IfOk result (λ o. o ≡ stored_update_share_in (view value.now)) }
+fn update_share(alloc: Global, value: &Value<'_>) -> Result<Option<Call>, Memory>
+    ensures { IfOk result (λ o. o ≡ stored_update_share_in (value_data value.now)) }
 {
     let Some(id) = text_item(alloc, value, 1)? else {
         return Ok(None);
@@ -71,8 +72,8 @@ fn update_share(alloc: Global, value: &Value) -> Result<Option<Call>, Memory>
 }
 
 #[tactic(auto, unfolding(crate::specs::EntryReading::stored_create_todo_in))]
-fn create_todo(alloc: Global, value: &Value) -> Result<Option<Call>, Memory>
-    ensures { IfOk result (λ o. o ≡ stored_create_todo_in (view value.now)) }
+fn create_todo(alloc: Global, value: &Value<'_>) -> Result<Option<Call>, Memory>
+    ensures { IfOk result (λ o. o ≡ stored_create_todo_in (value_data value.now)) }
 {
     let Some(id) = text_item(alloc, value, 1)? else {
         return Ok(None);
@@ -95,46 +96,50 @@ fn create_todo(alloc: Global, value: &Value) -> Result<Option<Call>, Memory>
 }
 
 // The text at a place, or that there is none; `None` where it is neither null nor a text.
-fn text_or_null(alloc: Global, value: &Value, place: usize) -> Result<Option<Option<Text>>, Memory>
-    ensures { IfOk result (λ o. o ≡ option_and_then (or_null (text_in 0 16384)) (at place (view value.now))) }
+fn text_or_null(
+    alloc: Global,
+    value: &Value<'_>,
+    place: usize,
+) -> Result<Option<Option<Text>>, Memory>
+    ensures { IfOk result (λ o. o ≡ option_and_then (or_null (text_in 0 16384)) (at place (value_data value.now))) }
 {
-    let Some(item) = value.get(place) else {
+    let Some(found) = item(value, place) else {
         return Ok(None);
     };
-    if item.is_null() {
+    if is_null(found) {
         return Ok(Some(None));
     }
-    match text_of_value(alloc, item)? {
+    match text_of_value(alloc, found)? {
         Some(text) => Ok(Some(Some(text))),
         None => Ok(None),
     }
 }
 
-fn flag_or_null(value: &Value, place: usize) -> Option<Option<bool>>
-    ensures { result ≡ option_and_then (or_null as_bool) (at place (view value.now)) }
+fn flag_or_null(value: &Value<'_>, place: usize) -> Option<Option<bool>>
+    ensures { result ≡ option_and_then (or_null as_bool) (at place (value_data value.now)) }
 {
-    let item = value.get(place)?;
-    if item.is_null() {
+    let found = item(value, place)?;
+    if is_null(found) {
         Some(None)
     } else {
-        Some(Some(item.as_bool()?))
+        Some(Some(flag(found)?))
     }
 }
 
-fn num_or_null(value: &Value, place: usize) -> Option<Option<Num>>
-    ensures { result ≡ option_and_then (or_null num_in) (at place (view value.now)) }
+fn num_or_null(value: &Value<'_>, place: usize) -> Option<Option<Num>>
+    ensures { result ≡ option_and_then (or_null num_in) (at place (value_data value.now)) }
 {
-    let item = value.get(place)?;
-    if item.is_null() {
+    let found = item(value, place)?;
+    if is_null(found) {
         Some(None)
     } else {
-        Some(Some(num_of_value(item)?))
+        Some(Some(num_of_value(found)?))
     }
 }
 
 #[tactic(auto, unfolding(crate::specs::EntryReading::stored_update_todo_in))]
-fn update_todo(alloc: Global, value: &Value) -> Result<Option<Call>, Memory>
-    ensures { IfOk result (λ o. o ≡ stored_update_todo_in (view value.now)) }
+fn update_todo(alloc: Global, value: &Value<'_>) -> Result<Option<Call>, Memory>
+    ensures { IfOk result (λ o. o ≡ stored_update_todo_in (value_data value.now)) }
 {
     let Some(id) = text_item(alloc, value, 1)? else {
         return Ok(None);
@@ -159,26 +164,26 @@ fn update_todo(alloc: Global, value: &Value) -> Result<Option<Call>, Memory>
 // The lists at a place, or that there are none; `None` where it is neither null nor an extent's lists.
 fn lists_or_null(
     alloc: Global,
-    value: &Value,
+    value: &Value<'_>,
     place: usize,
 ) -> Result<Option<Option<Lists>>, Memory>
-    ensures { IfOk result (λ o. o ≡ option_and_then (or_null lists_in) (at place (view value.now))) }
+    ensures { IfOk result (λ o. o ≡ option_and_then (or_null lists_in) (at place (value_data value.now))) }
 {
-    let Some(item) = value.get(place) else {
+    let Some(found) = item(value, place) else {
         return Ok(None);
     };
-    if item.is_null() {
+    if is_null(found) {
         return Ok(Some(None));
     }
-    match lists_of_value(alloc, item)? {
+    match lists_of_value(alloc, found)? {
         Some(lists) => Ok(Some(Some(lists))),
         None => Ok(None),
     }
 }
 
 #[tactic(auto, unfolding(crate::specs::EntryReading::stored_set_extent_in))]
-fn set_extent(alloc: Global, value: &Value) -> Result<Option<Call>, Memory>
-    ensures { IfOk result (λ o. o ≡ stored_set_extent_in (view value.now)) }
+fn set_extent(alloc: Global, value: &Value<'_>) -> Result<Option<Call>, Memory>
+    ensures { IfOk result (λ o. o ≡ stored_set_extent_in (value_data value.now)) }
 {
     let Some(lists) = lists_or_null(alloc, value, 1)? else {
         return Ok(None);
@@ -197,8 +202,8 @@ fn void_with(reason: &str) -> Option<Call>
 }
 
 // The call of a name, from the items after it.
-fn stored_call_with(alloc: Global, name: &str, value: &Value) -> Result<Option<Call>, Memory>
-    ensures { IfOk result (λ o. o ≡ stored_call_with name.now (view value.now)) }
+fn stored_call_with(alloc: Global, name: &str, value: &Value<'_>) -> Result<Option<Call>, Memory>
+    ensures { IfOk result (λ o. o ≡ stored_call_with name.now (value_data value.now)) }
 {
     match name {
         "createList" => create_list(alloc, value),
@@ -217,8 +222,8 @@ fn stored_call_with(alloc: Global, name: &str, value: &Value) -> Result<Option<C
 
 // The call that a value is, from its name and the items that the name asks for.
 #[tactic(auto, unfolding(crate::specs::EntryReading::stored_call_in))]
-pub(crate) fn call_of_value(alloc: Global, value: &Value) -> Result<Option<Call>, Memory>
-    ensures { IfOk result (λ o. o ≡ stored_call_in (view value.now)) }
+pub(crate) fn call_of_value(alloc: Global, value: &Value<'_>) -> Result<Option<Call>, Memory>
+    ensures { IfOk result (λ o. o ≡ stored_call_in (value_data value.now)) }
 {
     match string_item(value, 0) {
         Some(name) => stored_call_with(alloc, name, value),

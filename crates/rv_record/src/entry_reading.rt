@@ -1,6 +1,6 @@
 ghost use Rattle.std.specs.Prelude.{◌≡◌, ◌≤◌, IfOk, option_and_then};
 ghost use Rattle.serde_json.specs.Find.{at};
-ghost use Rattle.serde_json.specs.View.{view};
+ghost use Rattle.rv_json.specs.ValueData.{value_data};
 ghost use Rattle.rv_record.specs.CellTexts.{entry_cell};
 ghost use Rattle.rv_record.specs.CellReading.{ReadsCell};
 ghost use Rattle.rv_record.specs.ValueReading.{or_null, place_in, text_item};
@@ -11,16 +11,16 @@ use crate::cells::{cell_of_entry, is_same};
 use crate::fault::{CellFault, damaged};
 use crate::places::place_of_key;
 use crate::value_reading::{num_item, place_of_value, string_item, text_item};
+use json::{Scratch, Value};
 use rv_base::{Id, Memory};
 use rv_book::Entry;
+use rv_json::{is_null, item, read_json};
 use rv_keeper::Cell;
-use rv_rows::read_json;
-use serde_json::Value;
 use std::alloc::Global;
 
 #[tactic(auto, unfolding(crate::specs::EntryReading::act_in))]
-fn act(alloc: Global, value: &Value) -> Result<Option<Entry>, Memory>
-    ensures { IfOk result (λ o. o ≡ act_in (view value.now)) }
+fn act(alloc: Global, value: &Value<'_>) -> Result<Option<Entry>, Memory>
+    ensures { IfOk result (λ o. o ≡ act_in (value_data value.now)) }
 {
     let Some(user) = text_item(alloc, value, 1)? else {
         return Ok(None);
@@ -34,7 +34,7 @@ fn act(alloc: Global, value: &Value) -> Result<Option<Entry>, Memory>
     let Some(id) = num_item(value, 4) else {
         return Ok(None);
     };
-    let Some(spelled) = value.get(5) else {
+    let Some(spelled) = item(value, 5) else {
         return Ok(None);
     };
     let Some(call) = call_of_value(alloc, spelled)? else {
@@ -50,20 +50,20 @@ fn act(alloc: Global, value: &Value) -> Result<Option<Entry>, Memory>
 }
 
 // The place of a base, or that there is none; `None` where it is neither null nor a place.
-fn place_or_null(value: &Value, place: usize) -> Option<Option<u32>>
-    ensures { result ≡ option_and_then (or_null place_in) (at place (view value.now)) }
+fn place_or_null(value: &Value<'_>, place: usize) -> Option<Option<u32>>
+    ensures { result ≡ option_and_then (or_null place_in) (at place (value_data value.now)) }
 {
-    let item = value.get(place)?;
-    if item.is_null() {
+    let found = item(value, place)?;
+    if is_null(found) {
         Some(None)
     } else {
-        Some(Some(place_of_value(item)?))
+        Some(Some(place_of_value(found)?))
     }
 }
 
 #[tactic(auto, unfolding(crate::specs::EntryReading::look_in))]
-fn look(alloc: Global, value: &Value) -> Result<Option<Entry>, Memory>
-    ensures { IfOk result (λ o. o ≡ look_in (view value.now)) }
+fn look(alloc: Global, value: &Value<'_>) -> Result<Option<Entry>, Memory>
+    ensures { IfOk result (λ o. o ≡ look_in (value_data value.now)) }
 {
     let Some(user) = text_item(alloc, value, 1)? else {
         return Ok(None);
@@ -85,15 +85,15 @@ fn look(alloc: Global, value: &Value) -> Result<Option<Entry>, Memory>
     }))
 }
 
-fn group_of(alloc: Global, value: &Value) -> Result<Option<Id>, Memory>
-    ensures { IfOk result (λ o. o ≡ text_item 1 128 1 (view value.now)) }
+fn group_of(alloc: Global, value: &Value<'_>) -> Result<Option<Id>, Memory>
+    ensures { IfOk result (λ o. o ≡ text_item 1 128 1 (value_data value.now)) }
 {
     text_item(alloc, value, 1)
 }
 
 // The entry of a name, from the items after it.
-fn entry_with(alloc: Global, name: &str, value: &Value) -> Result<Option<Entry>, Memory>
-    ensures { IfOk result (λ o. o ≡ entry_with name.now (view value.now)) }
+fn entry_with(alloc: Global, name: &str, value: &Value<'_>) -> Result<Option<Entry>, Memory>
+    ensures { IfOk result (λ o. o ≡ entry_with name.now (value_data value.now)) }
 {
     match name {
         "act" => act(alloc, value),
@@ -105,8 +105,8 @@ fn entry_with(alloc: Global, name: &str, value: &Value) -> Result<Option<Entry>,
 
 // The entry that a value is, from its name and the items that the name asks for.
 #[tactic(auto, unfolding(crate::specs::EntryReading::entry_in))]
-fn entry_of_value(alloc: Global, value: &Value) -> Result<Option<Entry>, Memory>
-    ensures { IfOk result (λ o. o ≡ entry_in (view value.now)) }
+fn entry_of_value(alloc: Global, value: &Value<'_>) -> Result<Option<Entry>, Memory>
+    ensures { IfOk result (λ o. o ≡ entry_in (value_data value.now)) }
 {
     match string_item(value, 0) {
         Some(name) => entry_with(alloc, name, value),
@@ -114,24 +114,30 @@ fn entry_of_value(alloc: Global, value: &Value) -> Result<Option<Entry>, Memory>
     }
 }
 
-fn entry_of_body(alloc: Global, body: &[u8]) -> Result<Option<Entry>, Memory>
+fn entry_of_body(alloc: Global, body: &[u8], scratch: &mut Scratch) -> Result<Option<Entry>, Memory>
     ensures { IfOk result (λ o. o ≡ body_entry body.now) }
 {
-    match read_json(alloc, body)? {
+    match read_json(alloc, body, scratch)? {
         Some(value) => entry_of_value(alloc, &value),
         None => Ok(None),
     }
 }
 
 /// The entry whose cell this is, at its place, from 1. Any other cell is `BadCell`.
-pub fn entry_of_cell(alloc: Global, cell: &Cell) -> Result<(u32, Entry), CellFault>
+///
+/// `scratch` is room to read in, which is kept from one text to the next.
+pub fn entry_of_cell(
+    alloc: Global,
+    cell: &Cell,
+    scratch: &mut Scratch,
+) -> Result<(u32, Entry), CellFault>
     ensures reads { ReadsCell (λ e. entry_cell e.0 e.1) PlacedFits cell.now result }
     ensures place { IfOk result (λ e. 1 ≤ e.0) }
 {
     let Some(place) = place_of_key(cell.key.as_slice()) else {
         return Err(damaged(alloc, cell));
     };
-    let Some(entry) = entry_of_body(alloc, cell.body.as_slice())? else {
+    let Some(entry) = entry_of_body(alloc, cell.body.as_slice(), scratch)? else {
         return Err(damaged(alloc, cell));
     };
     let again = cell_of_entry(alloc, place, &entry)?;

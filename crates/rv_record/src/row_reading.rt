@@ -1,5 +1,5 @@
 ghost use Rattle.std.specs.Prelude.{◌≡◌, IfOk};
-ghost use Rattle.serde_json.specs.View.{view};
+ghost use Rattle.rv_json.specs.ValueData.{value_data};
 ghost use Rattle.rv_rows.specs.RowTexts.{row_in};
 ghost use Rattle.rv_record.specs.CellTexts.{page_row_cell, row_cell, row_cell_on};
 ghost use Rattle.rv_record.specs.CellReading.{ReadsCell};
@@ -8,31 +8,32 @@ ghost use Rattle.rv_record.specs.RowReading.{RowFits, row_cell_in};
 use crate::cells::{is_same, row_cell_on};
 use crate::fault::{CellFault, damaged};
 use crate::value_reading::place_item;
+use json::{Scratch, Value};
 use rv_base::Memory;
+use rv_json::{item, read_json};
 use rv_keeper::Cell;
-use rv_rows::{Row, read_json, read_row};
-use serde_json::Value;
+use rv_rows::{Row, read_row};
 use std::alloc::Global;
 
 // The row that a value is, where it is exactly the value of one.
-fn row_of_value(alloc: Global, value: &Value) -> Result<Option<Row>, Memory>
-    ensures { IfOk result (λ o. o ≡ row_in (view value.now)) }
+fn row_of_value(alloc: Global, value: &Value<'_>) -> Result<Option<Row>, Memory>
+    ensures { IfOk result (λ o. o ≡ row_in (value_data value.now)) }
 {
     read_row(alloc, value)
 }
 
 // What the cell is of, if it is a row's.
 #[tactic(auto, unfolding(crate::specs::RowReading::row_cell_in))]
-fn row_in(alloc: Global, cell: &Cell) -> Result<Option<(Row, u32)>, Memory>
+fn row_in(alloc: Global, cell: &Cell, scratch: &mut Scratch) -> Result<Option<(Row, u32)>, Memory>
     ensures { IfOk result (λ o. o ≡ row_cell_in cell.now) }
 {
-    let Some(body) = read_json(alloc, cell.body.as_slice())? else {
+    let Some(body) = read_json(alloc, cell.body.as_slice(), scratch)? else {
         return Ok(None);
     };
     let Some(version) = place_item(&body, 0) else {
         return Ok(None);
     };
-    let Some(value) = body.get(1) else {
+    let Some(value) = item(&body, 1) else {
         return Ok(None);
     };
     let Some(row) = row_of_value(alloc, value)? else {
@@ -42,10 +43,15 @@ fn row_in(alloc: Global, cell: &Cell) -> Result<Option<(Row, u32)>, Memory>
 }
 
 // The row whose cell this is on a shelf, with its version.
-fn row_on(alloc: Global, shelf: u8, cell: &Cell) -> Result<(Row, u32), CellFault>
+fn row_on(
+    alloc: Global,
+    shelf: u8,
+    cell: &Cell,
+    scratch: &mut Scratch,
+) -> Result<(Row, u32), CellFault>
     ensures { ReadsCell (λ r. row_cell_on shelf r.0 r.1) RowFits cell.now result }
 {
-    let Some(made) = row_in(alloc, cell)? else {
+    let Some(made) = row_in(alloc, cell, scratch)? else {
         return Err(damaged(alloc, cell));
     };
     let again = row_cell_on(alloc, shelf, &made.0, made.1)?;
@@ -57,15 +63,27 @@ fn row_on(alloc: Global, shelf: u8, cell: &Cell) -> Result<(Row, u32), CellFault
 }
 
 /// The row whose cell this is, with its version. Any other cell is `BadCell`.
-pub fn row_of_cell(alloc: Global, cell: &Cell) -> Result<(Row, u32), CellFault>
+///
+/// `scratch` is room to read in, which is kept from one text to the next.
+pub fn row_of_cell(
+    alloc: Global,
+    cell: &Cell,
+    scratch: &mut Scratch,
+) -> Result<(Row, u32), CellFault>
     ensures { ReadsCell (λ r. row_cell r.0 r.1) RowFits cell.now result }
 {
-    row_on(alloc, 2, cell)
+    row_on(alloc, 2, cell, scratch)
 }
 
 /// The row of a page whose cell this is, with its version. Any other cell is `BadCell`.
-pub fn page_row_of_cell(alloc: Global, cell: &Cell) -> Result<(Row, u32), CellFault>
+///
+/// `scratch` is room to read in, which is kept from one text to the next.
+pub fn page_row_of_cell(
+    alloc: Global,
+    cell: &Cell,
+    scratch: &mut Scratch,
+) -> Result<(Row, u32), CellFault>
     ensures { ReadsCell (λ r. page_row_cell r.0 r.1) RowFits cell.now result }
 {
-    row_on(alloc, 7, cell)
+    row_on(alloc, 7, cell, scratch)
 }

@@ -1,11 +1,12 @@
 // The items of a JSON array, and the text of a key.
 ghost use Rattle.std.specs.Prelude.{◌≡◌, IfOk, option_map};
-ghost use Rattle.serde_json.specs.View.{view};
+ghost use Rattle.rv_json.specs.ValueData.{value_data};
 ghost use Rattle.rv_record.specs.ValueReading.{utf8_text_in, string_item, text_item, num_item, place_in, place_item, flag_item, role_item};
 
+use json::Value;
 use rv_base::{Bounded, Memory, Num};
+use rv_json::{flag, item, text, whole};
 use rv_rows::{Role, num_of_value, role_of_value, text_of_value, text_within};
-use serde_json::Value;
 use std::alloc::Global;
 
 // The text that the bytes are, where they are UTF-8 and it is within the bounds.
@@ -23,58 +24,58 @@ pub(crate) fn text_of_bytes<const MIN: usize, const MAX: usize>(
 }
 
 // The text at a place of an array, from 0, of any length, where it is there.
-pub(crate) fn string_item(value: &Value, place: usize) -> Option<&str>
-    ensures { option_map (λ s. s.now) result ≡ string_item place (view value.now) }
+pub(crate) fn string_item<'t>(value: &Value<'t>, place: usize) -> Option<&'t str>
+    ensures { option_map (λ s. s.now) result ≡ string_item place (value_data value.now) }
 {
-    value.get(place).and_then(Value::as_str)
+    text(item(value, place)?)
 }
 
 // The text at a place of an array, from 0, where it is there and within the bounds.
 pub(crate) fn text_item<const MIN: usize, const MAX: usize>(
     alloc: Global,
-    value: &Value,
+    value: &Value<'_>,
     place: usize,
 ) -> Result<Option<Bounded<MIN, MAX>>, Memory>
-    ensures { IfOk result (λ o. o ≡ text_item MIN MAX place (view value.now)) }
+    ensures { IfOk result (λ o. o ≡ text_item MIN MAX place (value_data value.now)) }
 {
-    match value.get(place) {
+    match item(value, place) {
         None => Ok(None),
-        Some(item) => text_of_value(alloc, item),
+        Some(found) => text_of_value(alloc, found),
     }
 }
 
 // The number at a place of an array, from 0, where it is there and is a `Num`.
-pub(crate) fn num_item(value: &Value, place: usize) -> Option<Num>
-    ensures { result ≡ num_item place (view value.now) }
+pub(crate) fn num_item(value: &Value<'_>, place: usize) -> Option<Num>
+    ensures { result ≡ num_item place (value_data value.now) }
 {
-    num_of_value(value.get(place)?)
+    num_of_value(item(value, place)?)
 }
 
 // The place or version that a value is, where it is a whole number up to 2^32 - 1.
-pub(crate) fn place_of_value(value: &Value) -> Option<u32>
-    ensures { result ≡ place_in (view value.now) }
+pub(crate) fn place_of_value(value: &Value<'_>) -> Option<u32>
+    ensures { result ≡ place_in (value_data value.now) }
 {
-    let number = value.as_u64()?;
+    let number = whole(value)?;
     u32::try_from(number).ok()
 }
 
 // The place or version at a place of an array, from 0, where it is there and is one.
-pub(crate) fn place_item(value: &Value, place: usize) -> Option<u32>
-    ensures { result ≡ place_item place (view value.now) }
+pub(crate) fn place_item(value: &Value<'_>, place: usize) -> Option<u32>
+    ensures { result ≡ place_item place (value_data value.now) }
 {
-    place_of_value(value.get(place)?)
+    place_of_value(item(value, place)?)
 }
 
 // The flag at a place of an array, from 0, where it is there.
-pub(crate) fn flag_item(value: &Value, place: usize) -> Option<bool>
-    ensures { result ≡ flag_item place (view value.now) }
+pub(crate) fn flag_item(value: &Value<'_>, place: usize) -> Option<bool>
+    ensures { result ≡ flag_item place (value_data value.now) }
 {
-    value.get(place)?.as_bool()
+    flag(item(value, place)?)
 }
 
 // The role at a place of an array, from 0, where the text of one is there.
-pub(crate) fn role_item(value: &Value, place: usize) -> Option<Role>
-    ensures { result ≡ role_item place (view value.now) }
+pub(crate) fn role_item(value: &Value<'_>, place: usize) -> Option<Role>
+    ensures { result ≡ role_item place (value_data value.now) }
 {
-    role_of_value(value.get(place)?)
+    role_of_value(item(value, place)?)
 }

@@ -1,6 +1,6 @@
 ghost use Rattle.std.specs.Prelude.{◌≡◌, ◌≤◌, IfOk, option_map, option_and_then};
 ghost use Rattle.serde_json.specs.Find.{at, as_array};
-ghost use Rattle.serde_json.specs.View.{view, items_view};
+ghost use Rattle.rv_json.specs.ValueData.{value_data, items_data};
 ghost use Rattle.rv_base.specs.Sorted.{is_in_order};
 ghost use Rattle.rv_rows.specs.Keys.{prefix};
 ghost use Rattle.rv_rows.specs.Members.{each_item};
@@ -13,11 +13,12 @@ use crate::cells::{cell_of_view, is_same};
 use crate::fault::{CellFault, damaged};
 use crate::places::place_of_key;
 use crate::value_reading::{num_item, place_item, string_item, text_item, text_of_bytes};
+use json::{Scratch, Value};
 use rv_base::{Id, Memory, Num, Sequence};
+use rv_json::{item, items, read_json};
 use rv_keeper::Cell;
-use rv_rows::{Clients, Key, Kind, Visible, read_json};
+use rv_rows::{Clients, Key, Kind, Visible};
 use rv_views::{ViewRecord, record_now};
-use serde_json::Value;
 use std::alloc::Global;
 use std::cmp::Ordering;
 
@@ -60,8 +61,8 @@ fn key_of_text(alloc: Global, text: &[u8]) -> Result<Option<Key>, Memory>
 
 // The key and the version that an item of the first list is.
 #[tactic(auto, unfolding(crate::specs::ViewReading::seen_in))]
-fn seen_of_value(alloc: Global, value: &Value) -> Result<Option<(Key, u32)>, Memory>
-    ensures { IfOk result (λ o. o ≡ seen_in (view value.now)) }
+fn seen_of_value(alloc: Global, value: &Value<'_>) -> Result<Option<(Key, u32)>, Memory>
+    ensures { IfOk result (λ o. o ≡ seen_in (value_data value.now)) }
 {
     let Some(text) = string_item(value, 0) else {
         return Ok(None);
@@ -77,8 +78,8 @@ fn seen_of_value(alloc: Global, value: &Value) -> Result<Option<(Key, u32)>, Mem
 
 // The client and its last mutation id that an item of the second list is.
 #[tactic(auto, unfolding(crate::specs::ViewReading::pair_in))]
-fn pair_of_value(alloc: Global, value: &Value) -> Result<Option<(Id, Num)>, Memory>
-    ensures { IfOk result (λ o. o ≡ pair_in (view value.now)) }
+fn pair_of_value(alloc: Global, value: &Value<'_>) -> Result<Option<(Id, Num)>, Memory>
+    ensures { IfOk result (λ o. o ≡ pair_in (value_data value.now)) }
 {
     let Some(client) = text_item(alloc, value, 0)? else {
         return Ok(None);
@@ -90,8 +91,8 @@ fn pair_of_value(alloc: Global, value: &Value) -> Result<Option<(Id, Num)>, Memo
 }
 
 // What each item is, where each is a key and a version.
-fn seen_of_values(alloc: Global, values: &[Value]) -> Result<Option<Vec<(Key, u32)>>, Memory>
-    ensures { IfOk result (λ o. option_map (λ v. v.items) o ≡ each_item seen_in (items_view values.now)) }
+fn seen_of_values(alloc: Global, values: &[Value<'_>]) -> Result<Option<Vec<(Key, u32)>>, Memory>
+    ensures { IfOk result (λ o. option_map (λ v. v.items) o ≡ each_item seen_in (items_data values.now)) }
 {
     let mut rows = Vec::new(alloc);
     for value in values {
@@ -104,8 +105,8 @@ fn seen_of_values(alloc: Global, values: &[Value]) -> Result<Option<Vec<(Key, u3
 }
 
 // What each item is, where each is a client and its last mutation id.
-fn pairs_of_values(alloc: Global, values: &[Value]) -> Result<Option<Vec<(Id, Num)>>, Memory>
-    ensures { IfOk result (λ o. option_map (λ v. v.items) o ≡ each_item pair_in (items_view values.now)) }
+fn pairs_of_values(alloc: Global, values: &[Value<'_>]) -> Result<Option<Vec<(Id, Num)>>, Memory>
+    ensures { IfOk result (λ o. option_map (λ v. v.items) o ≡ each_item pair_in (items_data values.now)) }
 {
     let mut clients = Vec::new(alloc);
     for value in values {
@@ -118,15 +119,14 @@ fn pairs_of_values(alloc: Global, values: &[Value]) -> Result<Option<Vec<(Id, Nu
 }
 
 // The items of the array at a place.
-fn array_item(value: &Value, place: usize) -> Option<&[Value]>
-    ensures { option_map (λ s. items_view s.now) result ≡ option_and_then as_array (at place (view value.now)) }
+fn array_item<'v, 't>(value: &'v Value<'t>, place: usize) -> Option<&'v [Value<'t>]>
+    ensures { option_map (λ s. items_data s.now) result ≡ option_and_then as_array (at place (value_data value.now)) }
 {
-    let items = value.get(place)?.as_array()?;
-    Some(items.as_slice())
+    items(item(value, place)?)
 }
 
-fn rows_of_value(alloc: Global, value: &Value) -> Result<Option<Vec<(Key, u32)>>, Memory>
-    ensures { IfOk result (λ o. option_map (λ v. v.items) o ≡ each_of seen_in 0 (view value.now)) }
+fn rows_of_value(alloc: Global, value: &Value<'_>) -> Result<Option<Vec<(Key, u32)>>, Memory>
+    ensures { IfOk result (λ o. option_map (λ v. v.items) o ≡ each_of seen_in 0 (value_data value.now)) }
 {
     match array_item(value, 0) {
         Some(values) => seen_of_values(alloc, values),
@@ -134,8 +134,8 @@ fn rows_of_value(alloc: Global, value: &Value) -> Result<Option<Vec<(Key, u32)>>
     }
 }
 
-fn clients_of_value(alloc: Global, value: &Value) -> Result<Option<Vec<(Id, Num)>>, Memory>
-    ensures { IfOk result (λ o. option_map (λ v. v.items) o ≡ each_of pair_in 1 (view value.now)) }
+fn clients_of_value(alloc: Global, value: &Value<'_>) -> Result<Option<Vec<(Id, Num)>>, Memory>
+    ensures { IfOk result (λ o. option_map (λ v. v.items) o ≡ each_of pair_in 1 (value_data value.now)) }
 {
     match array_item(value, 1) {
         Some(values) => pairs_of_values(alloc, values),
@@ -187,8 +187,8 @@ fn record_of_lists(
 
 // The view record that a value is.
 #[tactic(auto, unfolding(crate::specs::ViewReading::view_in))]
-fn view_of_value(alloc: Global, value: &Value) -> Result<Option<ViewRecord>, Memory>
-    ensures { IfOk result (λ o. o ≡ view_in (view value.now)) }
+fn view_of_value(alloc: Global, value: &Value<'_>) -> Result<Option<ViewRecord>, Memory>
+    ensures { IfOk result (λ o. o ≡ view_in (value_data value.now)) }
 {
     let Some(rows) = rows_of_value(alloc, value)? else {
         return Ok(None);
@@ -199,24 +199,34 @@ fn view_of_value(alloc: Global, value: &Value) -> Result<Option<ViewRecord>, Mem
     record_of_lists(rows, clients)
 }
 
-fn view_of_body(alloc: Global, body: &[u8]) -> Result<Option<ViewRecord>, Memory>
+fn view_of_body(
+    alloc: Global,
+    body: &[u8],
+    scratch: &mut Scratch,
+) -> Result<Option<ViewRecord>, Memory>
     ensures { IfOk result (λ o. o ≡ body_view body.now) }
 {
-    match read_json(alloc, body)? {
+    match read_json(alloc, body, scratch)? {
         Some(value) => view_of_value(alloc, &value),
         None => Ok(None),
     }
 }
 
 /// The kept view record whose cell this is, at the place of its look, from 1. Any other cell is `BadCell`.
-pub fn view_of_cell(alloc: Global, cell: &Cell) -> Result<(u32, ViewRecord), CellFault>
+///
+/// `scratch` is room to read in, which is kept from one text to the next.
+pub fn view_of_cell(
+    alloc: Global,
+    cell: &Cell,
+    scratch: &mut Scratch,
+) -> Result<(u32, ViewRecord), CellFault>
     ensures reads { ReadsCell (λ v. view_cell v.0 v.1) ViewFits cell.now result }
     ensures place { IfOk result (λ v. 1 ≤ v.0) }
 {
     let Some(place) = place_of_key(cell.key.as_slice()) else {
         return Err(damaged(alloc, cell));
     };
-    let Some(view) = view_of_body(alloc, cell.body.as_slice())? else {
+    let Some(view) = view_of_body(alloc, cell.body.as_slice(), scratch)? else {
         return Err(damaged(alloc, cell));
     };
     let again = cell_of_view(alloc, place, &view)?;

@@ -9,7 +9,6 @@ pub mod Slots
 pub mod Effects
 pub mod RowTexts
 pub mod Members
-pub mod JsonTexts
 pub mod Additions
 pub mod ItemLaws
 pub mod Changes

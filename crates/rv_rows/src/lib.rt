@@ -23,8 +23,8 @@ mod tables;
 
 pub use call::{Call, Reason};
 pub use json_reading::{
-    ids_of_value, lists_of_value, next_named, num_of_value, read_json, role_of_value, role_or_edit,
-    text_of_value, text_within,
+    ids_of_value, lists_of_value, num_of_value, role_of_value, role_or_edit, text_of_value,
+    text_within,
 };
 pub use json_writing::{
     write_bool_member, write_ids, write_num_member, write_row, write_text_member,

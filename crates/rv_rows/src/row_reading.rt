@@ -1,20 +1,23 @@
 ghost use Rattle.std.specs.Prelude.{◌≡◌, IfOk, IfSome, IfNone, Some, None};
-ghost use Rattle.serde_json.specs.View.{view, members_view};
+ghost use Rattle.rv_json.specs.ValueData.{value_data, members_data};
 ghost use Rattle.rv_rows.specs.declared.row.Row.{Row};
 ghost use Rattle.rv_rows.specs.RowTexts.{row_data, RowIsWithin, extent_row_in, list_row_in, past_role, share_row_in, todo_row_in, members_row_in, row_in};
 
 use crate::json_reading::{lists_of_value, next_named, num_of_value, text_of_value};
 use crate::role::Role;
 use crate::row::{ExtentRow, ListRow, Row, ShareRow, TodoRow};
+use json::Value;
 use rv_base::Memory;
-use serde_json::Value;
+use rv_json::{Members, flag, members, text};
 use std::alloc::Global;
-use std::collections::BTreeMap;
 use std::collections::btree_map::Iter;
 
 #[tactic(auto, unfolding(crate::specs::RowTexts::extent_row_in))]
-fn extent_row(alloc: Global, mut left: Iter<'_, String, Value>) -> Result<Option<ExtentRow>, Memory>
-    ensures { IfOk result (λ o. o ≡ extent_row_in (members_view left.entry)) }
+fn extent_row<'t>(
+    alloc: Global,
+    mut left: Iter<'_, &'t str, &Value<'t>>,
+) -> Result<Option<ExtentRow>, Memory>
+    ensures { IfOk result (λ o. o ≡ extent_row_in (members_data left.entry)) }
 {
     let Some(lists) = next_named(&mut left, "lists") else {
         return Ok(None);
@@ -35,8 +38,11 @@ fn extent_row(alloc: Global, mut left: Iter<'_, String, Value>) -> Result<Option
 }
 
 #[tactic(auto, unfolding(crate::specs::RowTexts::list_row_in))]
-fn list_row(alloc: Global, mut left: Iter<'_, String, Value>) -> Result<Option<ListRow>, Memory>
-    ensures { IfOk result (λ o. o ≡ list_row_in (members_view left.entry)) }
+fn list_row<'t>(
+    alloc: Global,
+    mut left: Iter<'_, &'t str, &Value<'t>>,
+) -> Result<Option<ListRow>, Memory>
+    ensures { IfOk result (λ o. o ≡ list_row_in (members_data left.entry)) }
 {
     let Some(id) = next_named(&mut left, "id") else {
         return Ok(None);
@@ -63,13 +69,13 @@ fn list_row(alloc: Global, mut left: Iter<'_, String, Value>) -> Result<Option<L
 }
 
 // Goes past the member of a share's role, where it names this one.
-fn go_past_role(left: &mut Iter<'_, String, Value>, role: Role) -> Option<()>
-    ensures found { IfSome result (λ _. past_role role (members_view left.old) ≡ Some (members_view left.new)) }
-    ensures none { IfNone result (past_role role (members_view left.old) ≡ None) }
+fn go_past_role<'t>(left: &mut Iter<'_, &'t str, &Value<'t>>, role: Role) -> Option<()>
+    ensures found { IfSome result (λ _. past_role role (members_data left.old) ≡ Some (members_data left.new)) }
+    ensures none { IfNone result (past_role role (members_data left.old) ≡ None) }
 {
     match role {
         Role::View => {
-            let text = next_named(left, "role")?.as_str()?;
+            let text = text(next_named(left, "role")?)?;
             if text == "view" { Some(()) } else { None }
         }
         Role::Edit => Some(()),
@@ -77,12 +83,12 @@ fn go_past_role(left: &mut Iter<'_, String, Value>, role: Role) -> Option<()>
 }
 
 #[tactic(auto, unfolding(crate::specs::RowTexts::share_row_in))]
-fn share_row(
+fn share_row<'t>(
     alloc: Global,
-    mut left: Iter<'_, String, Value>,
+    mut left: Iter<'_, &'t str, &Value<'t>>,
     role: Role,
 ) -> Result<Option<ShareRow>, Memory>
-    ensures { IfOk result (λ o. o ≡ share_row_in role (members_view left.entry)) }
+    ensures { IfOk result (λ o. o ≡ share_row_in role (members_data left.entry)) }
 {
     let Some(id) = next_named(&mut left, "id") else {
         return Ok(None);
@@ -117,8 +123,11 @@ fn share_row(
 }
 
 #[tactic(auto, unfolding(crate::specs::RowTexts::todo_row_in))]
-fn todo_row(alloc: Global, mut left: Iter<'_, String, Value>) -> Result<Option<TodoRow>, Memory>
-    ensures { IfOk result (λ o. o ≡ todo_row_in (members_view left.entry)) }
+fn todo_row<'t>(
+    alloc: Global,
+    mut left: Iter<'_, &'t str, &Value<'t>>,
+) -> Result<Option<TodoRow>, Memory>
+    ensures { IfOk result (λ o. o ≡ todo_row_in (members_data left.entry)) }
 {
     let Some(complete) = next_named(&mut left, "complete") else {
         return Ok(None);
@@ -138,7 +147,7 @@ fn todo_row(alloc: Global, mut left: Iter<'_, String, Value>) -> Result<Option<T
     if left.next().is_some() {
         return Ok(None);
     }
-    let Some(complete) = complete.as_bool() else {
+    let Some(complete) = flag(complete) else {
         return Ok(None);
     };
     let Some(id) = text_of_value(alloc, id)? else {
@@ -162,8 +171,8 @@ fn todo_row(alloc: Global, mut left: Iter<'_, String, Value>) -> Result<Option<T
     }))
 }
 
-fn row_of_members(alloc: Global, members: &BTreeMap<String, Value>) -> Result<Option<Row>, Memory>
-    ensures { IfOk result (λ o. o ≡ members_row_in (members_view members.now.entries)) }
+fn row_of_members(alloc: Global, members: &Members<'_, '_>) -> Result<Option<Row>, Memory>
+    ensures { IfOk result (λ o. o ≡ members_row_in (members_data members.now.entries)) }
 {
     if let Some(row) = extent_row(alloc, members.iter())? {
         return Ok(Some(Row::Extent(row)));
@@ -183,19 +192,19 @@ fn row_of_members(alloc: Global, members: &BTreeMap<String, Value>) -> Result<Op
     }
 }
 
-fn row_of(alloc: Global, value: &Value) -> Result<Option<Row>, Memory>
-    ensures { IfOk result (λ o. o ≡ row_in (view value.now)) }
+fn row_of(alloc: Global, value: &Value<'_>) -> Result<Option<Row>, Memory>
+    ensures { IfOk result (λ o. o ≡ row_in (value_data value.now)) }
 {
-    match value.as_object() {
-        Some(members) => row_of_members(alloc, members),
+    match members(alloc, value)? {
+        Some(members) => row_of_members(alloc, &members),
         None => Ok(None),
     }
 }
 
 /// The row that a value is, where it is exactly the value of one.
-pub fn read_row(alloc: Global, value: &Value) -> Result<Option<Row>, Memory>
-    ensures found { IfOk result (λ o. IfSome o (λ r. (view value.now ≡ row_data r) × RowIsWithin r)) }
-    ensures only { IfOk result (λ o. (r : Row) → RowIsWithin r → view value.now ≡ row_data r → o ≡ Some r) }
+pub fn read_row(alloc: Global, value: &Value<'_>) -> Result<Option<Row>, Memory>
+    ensures found { IfOk result (λ o. IfSome o (λ r. (value_data value.now ≡ row_data r) × RowIsWithin r)) }
+    ensures only { IfOk result (λ o. (r : Row) → RowIsWithin r → value_data value.now ≡ row_data r → o ≡ Some r) }
 {
     row_of(alloc, value)
 }

@@ -10,6 +10,7 @@ ghost use Rattle.rv_serve.specs.Steps.{user_found};
 ghost use Rattle.rv_serve.specs.declared.http_answer.HttpAnswer.TheVariants as answers;
 
 use crate::http_answer::{HttpAnswer, HttpAnswered};
+use json::Scratch;
 use rv_accounts::Accounts;
 use rv_answering::{Answer, Answered, run_pull, run_push};
 use rv_base::{Schemas, User};
@@ -35,10 +36,11 @@ fn answer_push<T: Turns>(
     schemas: &Schemas,
     user: &User,
     body: &[u8],
+    scratch: &mut Scratch,
 ) -> Answered
     ensures { HandlesActing T.takes turns.old (push_asked user.now (push_body (serves (map string_bytes schemas.now)) body.now)) result.answer result.acted turns.new }
 {
-    match read_push(alloc, body, schemas) {
+    match read_push(alloc, body, schemas, scratch) {
         Ok(push) => run_push(turns, user, push),
         Err(fault) => Answered::without_act(Answer::Refused(fault.refusal())),
     }
@@ -51,10 +53,11 @@ fn answer_pull<T: Turns>(
     schemas: &Schemas,
     user: &User,
     body: &[u8],
+    scratch: &mut Scratch,
 ) -> Answer
     ensures { HandlesActing T.takes turns.old (pull_asked user.now (pull_body (serves (map string_bytes schemas.now)) body.now)) result false turns.new }
 {
-    match read_pull(alloc, body, schemas) {
+    match read_pull(alloc, body, schemas, scratch) {
         Ok(pull) => run_pull(turns, user, &pull),
         Err(fault) => Answer::Refused(fault.refusal()),
     }
@@ -73,6 +76,7 @@ fn reply_push<T: Turns + CountsSettled>(
     turns: &mut T,
     accounts: &Accounts,
     request: &Request,
+    scratch: &mut Scratch,
 ) -> HttpAnswered
     ensures { AnswersAsked T.takes T.settled turns.old (asked_at accounts.now request.now routes.Push) result.answer result.entered turns.new }
 {
@@ -85,6 +89,7 @@ fn reply_push<T: Turns + CountsSettled>(
                 accounts.schemas(),
                 user,
                 request.body.as_slice(),
+                scratch,
             );
             HttpAnswered {
                 answer: HttpAnswer::Answered(answer),
@@ -101,6 +106,7 @@ fn reply_pull<T: Turns + CountsSettled>(
     turns: &mut T,
     accounts: &Accounts,
     request: &Request,
+    scratch: &mut Scratch,
 ) -> HttpAnswered
     ensures { AnswersAsked T.takes T.settled turns.old (asked_at accounts.now request.now routes.Pull) result.answer result.entered turns.new }
 {
@@ -113,6 +119,7 @@ fn reply_pull<T: Turns + CountsSettled>(
                 accounts.schemas(),
                 user,
                 request.body.as_slice(),
+                scratch,
             );
             HttpAnswered {
                 answer: HttpAnswer::Answered(answer),
@@ -140,13 +147,14 @@ pub(crate) fn reply<T: Turns + CountsSettled>(
     accounts: &Accounts,
     routes: &Routes,
     request: &Request,
+    scratch: &mut Scratch,
 ) -> HttpAnswered
     ensures { Responds T.takes T.settled accounts.now turns.old request.now result.answer result.entered turns.new }
 {
     match routes.route(&request.method, request.path.as_slice()) {
         Route::NoRoute => rejected(Rejection::NoRoute),
         Route::OtherMethod => rejected(Rejection::OtherMethod),
-        Route::Push => reply_push(alloc, turns, accounts, request),
-        Route::Pull => reply_pull(alloc, turns, accounts, request),
+        Route::Push => reply_push(alloc, turns, accounts, request, scratch),
+        Route::Pull => reply_pull(alloc, turns, accounts, request, scratch),
     }
 }

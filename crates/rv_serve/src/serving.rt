@@ -13,6 +13,7 @@ use crate::http_answer::HttpAnswered;
 use crate::replying::reply;
 use crate::tools::Tools;
 use crate::writing::{write_answer, write_no_memory, write_rejection};
+use json::Scratch;
 use rv_accounts::Accounts;
 use rv_base::{Sink, Source};
 use rv_http::{Buffer, HttpEnd, Rejection, Request, Routes, WriteFault, read_request};
@@ -40,13 +41,14 @@ fn answer_request<T: Turns + CountsSettled, G: Gate, O: Sink>(
     gate: &mut G,
     request: &Request,
     number: u32,
+    scratch: &mut Scratch,
     sink: &mut O,
 ) -> Result<bool, WriteFault>
     ensures answers { AnswersOne T.takes T.settled accounts.now number turns.old request.now (O.state sink.old) (O.state sink.new) (G.heard gate.old) (G.heard gate.new) turns.new result }
     ensures steady { O.fails_no_more sink.old → IsSteady (O.fails_no_more sink.new) (O.state sink.old) (O.state sink.new) result }
 {
     gate.before(number);
-    let HttpAnswered { answer, entered } = reply(alloc, turns, accounts, routes, request);
+    let HttpAnswered { answer, entered } = reply(alloc, turns, accounts, routes, request, scratch);
     let closes = closes_at(number, request);
     let written = write_answer(sink, &answer, closes, request.head_only);
     gate.after(answer.status(), entered);
@@ -115,6 +117,7 @@ fn serve_requests<T: Turns + CountsSettled, G: Gate, S: Source, O: Sink>(
     ensures steady_input { S.fails_no_more source.old → ConnInputIsSteady (S.fails_no_more source.new) result }
     ensures steady_output { O.fails_no_more sink.old → ConnOutputIsSteady (O.fails_no_more sink.new) (O.state sink.old) (O.state sink.new) result }
 {
+    let mut scratch = Scratch::new(alloc);
     for count in 0..LAST {
         let request = match read_request(alloc, source, buffer) {
             Ok(request) => request,
@@ -128,6 +131,7 @@ fn serve_requests<T: Turns + CountsSettled, G: Gate, S: Source, O: Sink>(
             gate,
             &request,
             count + 1,
+            &mut scratch,
             sink,
         ) {
             Ok(true) => return ConnEnd::Done(count + 1),

@@ -6,6 +6,7 @@ ghost use Rattle.rv_standby.specs.Following.{OpensOrNot, Takes, TakesPage};
 
 use crate::standby::Standby;
 use crate::take_fault::TakeFault;
+use json::Scratch;
 use rv_keeper::Cell;
 use rv_opening::{PageRead, read_page};
 use rv_state::State;
@@ -64,18 +65,20 @@ impl Standby {
 
     /// Takes the next entry of the followed book, by its cell, and tells how long the book is then.
     ///
+    /// `scratch` is room to read in, which is kept from one cell to the next.
+    ///
     /// # Errors
     ///
     /// `Refused` where the cell is not that of an entry which may come next: not on shelf 1, not under the next place, no entry of the form, one
     /// that may not stand next, or one more than the limit. `Memory` where memory was refused. Then the book is as it was.
-    pub fn take(&mut self, cell: &Cell) -> Result<u32, TakeFault>
+    pub fn take(&mut self, cell: &Cell, scratch: &mut Scratch) -> Result<u32, TakeFault>
         ensures taken { Takes self.old.limit self.old.book cell.now result self.new.book }
         ensures limit { self.new.limit ≡ self.old.limit }
     {
         if cell.shelf != 1 {
             return Err(TakeFault::Refused);
         }
-        self.state.enter_cell(cell)?;
+        self.state.enter_cell(cell, scratch)?;
         Ok(self.length())
     }
 }

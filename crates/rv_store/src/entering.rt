@@ -7,6 +7,7 @@ ghost use Rattle.rv_keeper.specs.Cells.{cell_key};
 ghost use Rattle.rv_store.specs.Opening.{IsSoundBook};
 ghost use Rattle.rv_store.specs.OpeningSteps.{EntersAll, Stands, page_or_none};
 
+use json::Scratch;
 use rv_base::Memory;
 use rv_keeper::Cell;
 use rv_opening::PageRead;
@@ -43,11 +44,12 @@ pub(crate) fn enter_all(
     ensures { EntersAll limit (page_or_none page) cells.now result }
 {
     let mut state = begin(alloc, page, limit)?;
+    let mut scratch = Scratch::new(alloc);
     for cell in cells {
         if cell.shelf != 1 {
             return Ok(state);
         }
-        state.enter_cell(cell)?;
+        state.enter_cell(cell, &mut scratch)?;
     }
     Ok(state)
 }

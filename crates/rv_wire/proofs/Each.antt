@@ -1,13 +1,13 @@
 -- Reading a list item by item, as a loop does.
-use Rattle.std.proofs.Common.{◌≡◌, ℕ, zero, suc, ◌+◌, ◌<◌, List, [], ◌∷◌, ◌++◌, length, get_or, take, drop, map, Result, Ok, Err, refl, sym, ap, ◌∙◌, arith}
+use Rattle.std.proofs.Common.{◌≡◌, ℕ, zero, suc, ◌+◌, ◌<◌, List, [], ◌∷◌, ◌++◌, length, get_or, take, drop, map, Result, Ok, Err, Global, refl, sym, ap, ◌∙◌, arith}
 use Rattle.std.proofs.lemmas.List.{take_more, take-append-drop, drop_more}
 use Rattle.rv_wire.specs.declared.fault.WireFault.{WireFault}
 use Rattle.rv_base.specs.Chains.{◌>>=◌, each}
 use Rattle.rv_wire.specs.Bodies.{Fails, datas}
 use Rattle.rv_wire.specs.declared.fault.WireFault.TheVariants.{NotJson, Field, Version, Memory}
 use Rattle.serde_json.specs.Data.{Data}
-use Rattle.serde_json.specs.View.{view, items_view}
-use Rattle.serde_json.specs.declared.value.Value.{Value}
+use Rattle.json.specs.declared.value.Value.{Value}
+use Rattle.rv_json.specs.ValueData.{value_data, items_data}
 
 add_front : {B : Type 0} (y : B) (r : Result (List B) WireFault) (ys : List B) → (r >>= λ ys. Ok (y ∷ ys)) ≡ Ok ys → (zs : List B) × (r ≡ Ok zs) × (y ∷ zs ≡ ys)
 add_front y (Ok zs) ys e = (zs, refl, cc)
@@ -46,12 +46,12 @@ each_ends f xs i x ys (Field n) lt is so_far fails = each_ends_at f xs i x ys (F
 each_ends f xs i x ys (Version k) lt is so_far fails = each_ends_at f xs i x ys (Version k) lt is so_far fails
 
 -- the items of a value, as a list
-pub datas_views : (vs : List Value) → datas (items_view vs) ≡ map view vs
-datas_views [] = refl
-datas_views (v ∷ vs) = ap (λ (ds : List Data). view v ∷ ds) (datas_views vs)
+pub datas_values : (vs : List (Value Global)) → datas (items_data vs) ≡ map value_data vs
+datas_values [] = refl
+datas_values (v ∷ vs) = ap (λ (ds : List Data). value_data v ∷ ds) (datas_values vs)
 
--- an item of a list, and of the list of its views
-pub read_mapped : (vs : List Value) (i : ℕ) (x : Value) → i < length vs → x ≡ get_or vs i x → view x ≡ get_or (map view vs) i (view x)
+-- an item of a list, and of the list of its values
+pub read_mapped : (vs : List (Value Global)) (i : ℕ) (x : Value Global) → i < length vs → x ≡ get_or vs i x → value_data x ≡ get_or (map value_data vs) i (value_data x)
 read_mapped [] i x lt is = absurd (omega arith)
-read_mapped (v ∷ vs) zero x lt is = ap view is
+read_mapped (v ∷ vs) zero x lt is = ap value_data is
 read_mapped (v ∷ vs) (suc i) x lt is = read_mapped vs i x (omega arith) is

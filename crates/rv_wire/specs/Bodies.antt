@@ -19,7 +19,7 @@ use Rattle.rv_wire.specs.declared.push.Push.{Push}
 use Rattle.rv_turns.specs.declared.pull.PullRequest.{PullRequest}
 use Rattle.rv_wire.specs.Members.{field_text, text_member, string_member, num_member, array_member}
 use Rattle.rv_rows.specs.Members.{num_in}
-use Rattle.rv_rows.specs.JsonTexts.{json_in}
+use Rattle.rv_json.specs.JsonTexts.{json_in}
 use Rattle.rv_wire.specs.Calls.{call_in}
 
 -- what is read has this fault; want of memory may come at any body

@@ -1,7 +1,7 @@
 -- The call that a mutation's name and arguments spell. Members that are not named here are ignored; where one that is
 -- named is missing or of another kind or size, null included but for the lists of an extent, the arguments are bad; a role is
 -- the text `view` or `edit`.
-use Rattle.std.specs.Prelude.{ℕ, List, Option, Some, None, codes, unwrap_or, option_map, if◌then◌else◌}
+use Rattle.std.specs.Prelude.{ℕ, List, Option, Some, codes, unwrap_or, option_map, if◌then◌else◌}
 use Rattle.std.specs.Str.{bytes_eq}
 use Rattle.serde_json.specs.Data.{Data}
 use Rattle.serde_json.specs.Find.{get, as_bool}

@@ -1,7 +1,7 @@
 //! The JSON that clients send and get: the bodies of pushes and pulls, the answer to a pull, and the texts of refusals.
 //!
 //! The bodies are those of version 1 of the push and the pull of Replicache's reference ("Replicache Server: Push" and
-//! "Pull"). JSON is read by `serde_json`. An answer is written by `json`'s writer,
+//! "Pull"). JSON is read as `rv_json` reads it. An answer is written by `json`'s writer,
 //! from left to right, with no value of it between.
 #![tactic(auto)]
 

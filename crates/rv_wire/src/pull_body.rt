@@ -1,19 +1,20 @@
 ghost use Rattle.std.specs.Prelude.{◌≡◌, IfOk, codes};
-ghost use Rattle.serde_json.specs.View.{view};
+ghost use Rattle.rv_json.specs.ValueData.{value_data};
 ghost use Rattle.rv_wire.specs.Bodies.{GivesBody, is_schema_served, named_cookie, cookie_at, cookie_in, pull_in, pull_body};
 ghost use Rattle.rv_wire.specs.Members.{text_member, num_member};
 
 use crate::body::{SchemaVersions, group_of_value, num_member, text_member};
 use crate::fault::{FieldName, VersionKind, WireFault};
+use json::{Scratch, Value};
 use rv_base::Memory;
-use rv_rows::{num_of_value, read_json};
+use rv_json::{is_null, is_object, member, read_json};
+use rv_rows::num_of_value;
 use rv_turns::PullRequest;
 use rv_views::Cookie;
-use serde_json::Value;
 use std::alloc::Global;
 
-fn named_cookie(alloc: Global, value: &Value) -> Result<Option<Cookie>, Memory>
-    ensures { IfOk result (λ o. o ≡ named_cookie (text_member 0 16384 (codes "cvrID") (view value.now)) (num_member (codes "order") (view value.now))) }
+fn named_cookie(alloc: Global, value: &Value<'_>) -> Result<Option<Cookie>, Memory>
+    ensures { IfOk result (λ o. o ≡ named_cookie (text_member 0 16384 (codes "cvrID") (value_data value.now)) (num_member (codes "order") (value_data value.now))) }
 {
     let Some(place_text) = text_member(alloc, value, "cvrID")? else {
         return Ok(None);
@@ -24,23 +25,22 @@ fn named_cookie(alloc: Global, value: &Value) -> Result<Option<Cookie>, Memory>
     }
 }
 
-fn cookie_at(alloc: Global, value: &Value) -> Result<Option<Cookie>, Memory>
-    ensures { IfOk result (λ o. o ≡ cookie_at (view value.now)) }
+fn cookie_at(alloc: Global, value: &Value<'_>) -> Result<Option<Cookie>, Memory>
+    ensures { IfOk result (λ o. o ≡ cookie_at (value_data value.now)) }
 {
-    match value {
-        Value::Null => Ok(Some(Cookie::Null)),
-        Value::Number(_) => Ok(num_of_value(value).map(Cookie::Bare)),
-        Value::Object(_) => named_cookie(alloc, value),
-        Value::Bool(_) => Ok(None),
-        Value::String(_) => Ok(None),
-        Value::Array(_) => Ok(None),
+    if is_null(value) {
+        return Ok(Some(Cookie::Null));
     }
+    if is_object(value) {
+        return named_cookie(alloc, value);
+    }
+    Ok(num_of_value(value).map(Cookie::Bare))
 }
 
-fn cookie_of(alloc: Global, value: &Value) -> Result<Cookie, WireFault>
-    ensures { GivesBody result (cookie_in (view value.now)) }
+fn cookie_of(alloc: Global, value: &Value<'_>) -> Result<Cookie, WireFault>
+    ensures { GivesBody result (cookie_in (value_data value.now)) }
 {
-    let Some(cookie) = value.get("cookie") else {
+    let Some(cookie) = member(value, "cookie") else {
         return Ok(Cookie::Null);
     };
     cookie_at(alloc, cookie)?.ok_or(WireFault::Field(FieldName::Cookie))
@@ -53,10 +53,10 @@ fn cookie_of(alloc: Global, value: &Value) -> Result<Cookie, WireFault>
 #[tactic(auto, unfolding(crate::specs::Bodies::pull_in))]
 pub fn pull_of_value<S: SchemaVersions>(
     alloc: Global,
-    value: &Value,
+    value: &Value<'_>,
     schemas: &S,
 ) -> Result<PullRequest, WireFault>
-    ensures { GivesBody result (pull_in (S.serves schemas.now) (view value.now)) }
+    ensures { GivesBody result (pull_in (S.serves schemas.now) (value_data value.now)) }
 {
     let kind = VersionKind::Pull;
     let group = group_of_value(alloc, value, kind, FieldName::PullVersion, schemas)?;
@@ -65,13 +65,16 @@ pub fn pull_of_value<S: SchemaVersions>(
 }
 
 /// The pull that a body's bytes are. Bytes that are not UTF-8, are no JSON or nest deeper than 127 are `NotJson`.
+///
+/// `scratch` is room to read in, which is kept from one text to the next.
 pub fn read_pull<S: SchemaVersions>(
     alloc: Global,
     body: &[u8],
     schemas: &S,
+    scratch: &mut Scratch,
 ) -> Result<PullRequest, WireFault>
     ensures { GivesBody result (pull_body (S.serves schemas.now) body.now) }
 {
-    let value = read_json(alloc, body)?.ok_or(WireFault::NotJson)?;
+    let value = read_json(alloc, body, scratch)?.ok_or(WireFault::NotJson)?;
     pull_of_value(alloc, &value, schemas)
 }

@@ -1,7 +1,7 @@
 ghost use Rattle.std.specs.Prelude.{◌≡◌, IfOk, codes, unwrap_or, map};
 ghost use Rattle.serde_json.specs.Data.{null};
 ghost use Rattle.serde_json.specs.Find.{get};
-ghost use Rattle.serde_json.specs.View.{view};
+ghost use Rattle.rv_json.specs.ValueData.{value_data};
 ghost use Rattle.rv_base.specs.Chains.{each};
 ghost use Rattle.rv_wire.specs.Bodies.{GivesBody, GivesAll, is_schema_served, mutation_in, mutations_in, push_in, push_body};
 ghost use Rattle.rv_wire.specs.Calls.{call_in};
@@ -12,27 +12,29 @@ use crate::body::{
 use crate::calls::read_call;
 use crate::fault::{FieldName, VersionKind, WireFault};
 use crate::push::Push;
+use json::{Scratch, Value};
 use rv_base::{Memory, Sequence};
-use rv_rows::{Call, read_json};
+use rv_json::{is_object, member, read_json};
+use rv_rows::Call;
 use rv_turns::Mutation;
-use serde_json::Value;
 use std::alloc::Global;
 
 // The call of a mutation, whose arguments are null where they are absent.
-fn call_of_mutation(alloc: Global, name: &str, value: &Value) -> Result<Call, Memory>
-    ensures { IfOk result (λ call. call ≡ call_in name.now (unwrap_or (get (codes "args") (view value.now)) null)) }
+#[tactic(auto, using(rv_json::proofs::Trees::view_null))]
+fn call_of_mutation(alloc: Global, name: &str, value: &Value<'_>) -> Result<Call, Memory>
+    ensures { IfOk result (λ call. call ≡ call_in name.now (unwrap_or (get (codes "args") (value_data value.now)) null)) }
 {
-    match value.get("args") {
+    match member(value, "args") {
         Some(args) => read_call(alloc, name, args),
         None => read_call(alloc, name, &Value::Null),
     }
 }
 
 #[tactic(auto, unfolding(crate::specs::Bodies::mutation_in))]
-fn mutation_of(alloc: Global, value: &Value) -> Result<Mutation, WireFault>
-    ensures { GivesBody result (mutation_in (view value.now)) }
+fn mutation_of(alloc: Global, value: &Value<'_>) -> Result<Mutation, WireFault>
+    ensures { GivesBody result (mutation_in (value_data value.now)) }
 {
-    if !value.is_object() {
+    if !is_object(value) {
         return Err(WireFault::Field(FieldName::Mutations));
     }
     let client = text_member(alloc, value, "clientID")?.ok_or(WireFault::Field(
@@ -44,8 +46,8 @@ fn mutation_of(alloc: Global, value: &Value) -> Result<Mutation, WireFault>
     Ok(Mutation { client, id, call })
 }
 
-fn mutations_of(alloc: Global, values: &[Value]) -> Result<Vec<Mutation>, WireFault>
-    ensures { GivesAll (λ v. v.items) result (each mutation_in (map view values.now)) }
+fn mutations_of(alloc: Global, values: &[Value<'_>]) -> Result<Vec<Mutation>, WireFault>
+    ensures { GivesAll (λ v. v.items) result (each mutation_in (map value_data values.now)) }
 {
     let mut mutations = Vec::new(alloc);
     for value in values {
@@ -61,9 +63,9 @@ fn mutations_of(alloc: Global, values: &[Value]) -> Result<Vec<Mutation>, WireFa
     Ok(mutations)
 }
 
-#[tactic(auto, using(crate::proofs::Each::datas_views), unfolding(crate::specs::Bodies::mutations_in))]
-fn mutations_of_body(alloc: Global, value: &Value) -> Result<Vec<Mutation>, WireFault>
-    ensures { GivesAll (λ v. v.items) result (mutations_in (view value.now)) }
+#[tactic(auto, using(crate::proofs::Each::datas_values), unfolding(crate::specs::Bodies::mutations_in))]
+fn mutations_of_body(alloc: Global, value: &Value<'_>) -> Result<Vec<Mutation>, WireFault>
+    ensures { GivesAll (λ v. v.items) result (mutations_in (value_data value.now)) }
 {
     let values = array_member(value, "mutations").ok_or(WireFault::Field(FieldName::Mutations))?;
     mutations_of(alloc, values)
@@ -76,10 +78,10 @@ fn mutations_of_body(alloc: Global, value: &Value) -> Result<Vec<Mutation>, Wire
 #[tactic(auto, unfolding(crate::specs::Bodies::push_in))]
 pub fn push_of_value<S: SchemaVersions>(
     alloc: Global,
-    value: &Value,
+    value: &Value<'_>,
     schemas: &S,
 ) -> Result<Push, WireFault>
-    ensures { GivesBody result (push_in (S.serves schemas.now) (view value.now)) }
+    ensures { GivesBody result (push_in (S.serves schemas.now) (value_data value.now)) }
 {
     let kind = VersionKind::Push;
     let group = group_of_value(alloc, value, kind, FieldName::PushVersion, schemas)?;
@@ -91,13 +93,16 @@ pub fn push_of_value<S: SchemaVersions>(
 }
 
 /// The push that a body's bytes are. Bytes that are not UTF-8, are no JSON or nest deeper than 127 are `NotJson`.
+///
+/// `scratch` is room to read in, which is kept from one text to the next.
 pub fn read_push<S: SchemaVersions>(
     alloc: Global,
     body: &[u8],
     schemas: &S,
+    scratch: &mut Scratch,
 ) -> Result<Push, WireFault>
     ensures { GivesBody result (push_body (S.serves schemas.now) body.now) }
 {
-    let value = read_json(alloc, body)?.ok_or(WireFault::NotJson)?;
+    let value = read_json(alloc, body, scratch)?.ok_or(WireFault::NotJson)?;
     push_of_value(alloc, &value, schemas)
 }

@@ -1,5 +1,6 @@
 // Lines that a desk answers, over any store.
 use crate::held::Held;
+use json::Scratch;
 use rv_answering::{Answer, Line, line_of, serve_asked};
 use rv_base::Memory;
 use rv_desk::{Desk, OpenFault};
@@ -75,7 +76,7 @@ impl Told {
 
 // Answers a line.
 fn answer_line<K: Keeper>(alloc: Global, desk: &mut Desk<K>, line: &str, told: &mut Told) -> End {
-    match line_of(alloc, line.as_bytes()) {
+    match line_of(alloc, line.as_bytes(), &mut Scratch::new(alloc)) {
         Ok(Some(Line::Asks(read))) => told.hear(&serve_asked(desk, read)),
         _ => End::Wrong,
     }

@@ -1,5 +1,6 @@
 // What a desk answers to lines, over any keeper.
 use crate::plain_answers::add_asked;
+use json::Scratch;
 use rv_answering::{Line, line_of};
 use rv_base::Memory;
 use rv_desk::Desk;
@@ -26,7 +27,7 @@ fn add_answer<K: Keeper>(
     desk: &mut Desk<K>,
     line: &str,
 ) -> Result<(), Memory> {
-    match line_of(alloc, line.as_bytes())? {
+    match line_of(alloc, line.as_bytes(), &mut Scratch::new(alloc))? {
         Some(Line::Asks(read)) => add_asked(alloc, text, desk, read),
         Some(Line::Stop) => reopen(desk),
         None => append_parts(alloc, text, &[Text("no line\n")]),

@@ -1,5 +1,6 @@
 // What the plain server answers to lines.
 use crate::plain_server::PlainServer;
+use json::Scratch;
 use rv_answering::{Answer, Line, Parsed, line_of, serve_asked};
 use rv_base::Memory;
 use rv_turns::Turns;
@@ -66,7 +67,7 @@ pub fn add_answer(
     plain: &mut PlainServer,
     line: &str,
 ) -> Result<(), Memory> {
-    match line_of(alloc, line.as_bytes())? {
+    match line_of(alloc, line.as_bytes(), &mut Scratch::new(alloc))? {
         Some(Line::Asks(read)) => add_asked(alloc, text, plain, read),
         Some(Line::Stop) => plain.stop(),
         None => append_parts(alloc, text, &[Text("no line\n")]),

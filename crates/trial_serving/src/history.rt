@@ -5,6 +5,7 @@ use crate::drawn::{Connection, Plan, connections_of, plan_of};
 use crate::order::{Turn, turns_of};
 use crate::sending::{add_response, are_answered, net};
 use crate::serving::{LIMIT, Served, serve_by_threads, serve_in_turn};
+use json::Scratch;
 use rv_answering::{Line, line_of, serve_asked};
 use rv_base::Memory;
 use rv_desk::Desk;
@@ -38,7 +39,7 @@ fn respond_to<T: Turns>(
 ) -> Result<(), Memory>
     requires { T.closes }
 {
-    match line_of(alloc, line.trim_end().as_bytes())? {
+    match line_of(alloc, line.trim_end().as_bytes(), &mut Scratch::new(alloc))? {
         Some(Line::Asks(read)) => add_response(alloc, text, &serve_asked(turns, read)),
         _ => Err(Memory),
     }

@@ -1,9 +1,9 @@
 use Rattle.std.proofs.Common.{drop}
-use Rattle.serde_json.specs.View.{items_view}
+use Rattle.rv_json.specs.ValueData.{items_data}
 use Rattle.rv_rows.specs.Members.{each_item}
 use Rattle.rv_record.specs.ViewReading.{pair_in}
 use Rattle.rv_record.proofs.Items.{Goes}
 use Rattle.rv_record.proofs.view_reading.pairs_of_values.Given as goal
 
 abbrev pub invariant-loop-value : goal.invariant-loop-value
-invariant-loop-value l = Goes pair_in l.clients.items (drop l.value-index l.values) (each_item pair_in (items_view l.values))
+invariant-loop-value l = Goes pair_in l.clients.items (drop l.value-index l.values) (each_item pair_in (items_data l.values))

@@ -1,0 +1,4 @@
+pub mod ByName
+pub mod Found
+pub mod Texts
+pub mod Trees

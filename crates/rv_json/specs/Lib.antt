@@ -1,0 +1,5 @@
+pub mod DocumentLaws
+pub mod Documents
+pub mod JsonTexts
+pub mod Numbers
+pub mod ValueData

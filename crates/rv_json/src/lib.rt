@@ -1,0 +1,16 @@
+//! JSON texts whose values borrow from the text.
+//!
+//! [`read_json`] reads a text (RFC 8259) as `json`'s tree, over a scratch that is kept from one text to the next. Contracts see a tree as the
+//! value that `serde_json` reads the text as: of the members of one name the last counts, and an object's members stand in the order
+//! of their names' bytes. The other functions look into a tree, and say what they find of that value.
+#![tactic(auto)]
+
+mod looking;
+mod numbers;
+mod objects;
+mod readable;
+mod reading;
+
+pub use looking::{flag, is_null, is_object, item, items, member, text, whole};
+pub use objects::{Members, members};
+pub use reading::read_json;
