@@ -11,6 +11,9 @@ use rv_pages::Pages;
 use std::alloc::Global;
 use std::marker::Model;
 
+// How many cells a page has at most: a cell that comes moves some 1,000 bytes of its page.
+const PAGE: usize = 64;
+
 /// Cells in the order of their shelves and then of their keys, each place once. They stand in pages, so a change moves the
 /// cells of a page at most.
 ///
@@ -39,7 +42,7 @@ impl Shelves {
         ensures { result ≡ [] }
     {
         Shelves {
-            cells: Pages::new(alloc),
+            cells: Pages::new(alloc, PAGE),
         }
     }
 

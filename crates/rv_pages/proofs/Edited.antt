@@ -185,6 +185,6 @@ module _ {A : Type 0} where
   index_last (p ∷ ps) (suc n) o e is = omega (arith, length-append p (items (take n ps)), length-append p (items ps), index_last ps n o (omega arith) is)
 
   -- each page that stands has an item
-  pub have_items : {Z : Type 0} (vs : List (Vec A Z)) → ArePages vs → HaveItems (lists vs)
-  have_items [] all = tt
-  have_items (v ∷ vs) all = ((all 0 v (omega arith)).some, have_items vs (λ k d lt. all (suc k) d (omega arith)))
+  pub have_items : {Z : Type 0} (most : ℕ) (vs : List (Vec A Z)) → ArePages most vs → HaveItems (lists vs)
+  have_items most [] all = tt
+  have_items most (v ∷ vs) all = ((all 0 v (omega arith)).some, have_items most vs (λ k d lt. all (suc k) d (omega arith)))

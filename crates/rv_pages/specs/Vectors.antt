@@ -2,28 +2,27 @@
 use Rattle.std.specs.Prelude.{◌≡◌, ℕ, ◌≤◌, Bool, true, false, List, [], ◌∷◌, map, length, Vec, vec_capacity}
 use Rattle.std.specs.List.{All, AllByRecursion}
 use Rattle.std.specs.List.Sorted.{IsPartitionedBy, IsPartitionPoint}
-use Rattle.rv_pages.specs.declared.edits.TheConstants.{MOST}
 
 -- the items of each page
 abbrev pub lists : {A Z : Type 0} → List (Vec A Z) → List (List A)
 lists pages = map (λ page. page.items) pages
 
 -- a page that stands: it has an item, no more than a page may have, and space for so many
-pub record IsPage {A Z : Type 0} (page : Vec A Z) : Type 0 where
+pub record IsPage {A Z : Type 0} (most : ℕ) (page : Vec A Z) : Type 0 where
   pub some : 1 ≤ length page.items
-  pub most : length page.items ≤ MOST
-  pub space : MOST ≤ vec_capacity page
+  pub within : length page.items ≤ most
+  pub space : most ≤ vec_capacity page
 
-abbrev pub ArePages : {A Z : Type 0} → List (Vec A Z) → Type 0
-ArePages pages = All IsPage pages
+abbrev pub ArePages : {A Z : Type 0} → ℕ → List (Vec A Z) → Type 0
+ArePages most pages = All (IsPage most) pages
 
 -- a page that stands by: it has no item, and space for as many as a page may have
-pub record IsFresh {A Z : Type 0} (page : Vec A Z) : Type 0 where
+pub record IsFresh {A Z : Type 0} (most : ℕ) (page : Vec A Z) : Type 0 where
   pub none : page.items ≡ []
-  pub space : MOST ≤ vec_capacity page
+  pub space : most ≤ vec_capacity page
 
-abbrev pub AreFresh : {A Z : Type 0} → List (Vec A Z) → Type 0
-AreFresh pages = All IsFresh pages
+abbrev pub AreFresh : {A Z : Type 0} → ℕ → List (Vec A Z) → Type 0
+AreFresh most pages = All (IsFresh most) pages
 
 -- each page has an item
 abbrev pub HaveItems : {A : Type 0} → List (List A) → Type 0

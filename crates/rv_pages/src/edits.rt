@@ -1,5 +1,5 @@
 // Items that come and go in pages.
-ghost use Rattle.std.specs.Prelude.{◌≡◌, ◌≤◌, ◌<◌, ◌+◌, ◌∷◌, ◌++◌, [], length, reverse, IfOk, OnOk, slice_set, vec_len, vec_capacity};
+ghost use Rattle.std.specs.Prelude.{◌≡◌, ℕ, ◌≤◌, ◌<◌, ◌+◌, ◌∷◌, ◌++◌, [], length, reverse, IfOk, OnOk, slice_set, vec_len, vec_capacity};
 ghost use Rattle.std.specs.List.{insert, remove as removed};
 ghost use Rattle.rv_pages.specs.Paging.{items, page_at, index_of, IsItem, IsGap};
 ghost use Rattle.rv_pages.specs.Vectors.{lists, IsPage, IsFresh, ArePages, AreFresh};
@@ -8,35 +8,30 @@ use crate::at::At;
 use rv_base::Memory;
 use std::alloc::Global;
 
-// How many items a page has at most.
-pub(crate) const MOST: usize = 64;
-
-// How many stay in a full page that is split.
-const HALF: usize = 32;
-
 // A page with no item, and with space for as many as a page has.
-fn fresh_page<T: Drop>(alloc: Global) -> Result<Vec<T>, Memory>
-    ensures { IfOk result IsFresh }
+fn fresh_page<T: Drop>(alloc: Global, most: usize) -> Result<Vec<T>, Memory>
+    ensures { IfOk result (IsFresh most) }
 {
-    Ok(Vec::with_capacity(alloc, MOST)?)
+    Ok(Vec::with_capacity(alloc, most)?)
 }
 
 // Makes fresh pages until there are so many.
 pub(crate) fn fill<T: Drop>(
     fresh: &mut Vec<Vec<T>>,
     alloc: Global,
+    most: usize,
     count: usize,
 ) -> Result<(), Memory>
-    requires fresh { AreFresh fresh.old.items }
+    requires fresh { AreFresh most fresh.old.items }
     requires space { count ≤ vec_capacity fresh.old }
     requires fewer { vec_len fresh.old ≤ count }
-    ensures fresh { AreFresh fresh.new.items }
+    ensures fresh { AreFresh most fresh.new.items }
     ensures ok { OnOk result (vec_len fresh.new ≡ count) }
     ensures more { vec_len fresh.old ≤ vec_len fresh.new }
     ensures most { vec_len fresh.new ≤ count }
 {
     for _ in fresh.len()..count {
-        let page = fresh_page(alloc)?;
+        let page = fresh_page(alloc, most)?;
         fresh.push_reserved(page);
     }
     Ok(())
@@ -72,33 +67,34 @@ fn put_page<T: Drop>(pages: &mut Vec<Vec<T>>, at: usize, page: Vec<T>)
 
 // Puts an item into the one of two halves where it belongs.
 fn put_in_half<T: Drop>(page: &mut Vec<T>, after: &mut Vec<T>, offset: usize, item: T)
-    requires page { vec_len page.old ≡ HALF }
-    requires page_space { MOST ≤ vec_capacity page.old }
-    requires after { vec_len after.old ≡ HALF }
-    requires after_space { MOST ≤ vec_capacity after.old }
-    requires offset { offset ≤ MOST }
+    requires page { (1 ≤ vec_len page.old) × (vec_len page.old < vec_capacity page.old) }
+    requires after { (1 ≤ vec_len after.old) × (vec_len after.old < vec_capacity after.old) }
+    requires offset { offset ≤ vec_len page.old + vec_len after.old }
     ensures items { page.new.items ++ after.new.items ≡ insert (page.old.items ++ after.old.items) offset item }
-    ensures page { IsPage page.new }
-    ensures after { IsPage after.new }
+    ensures page { (most : ℕ) → vec_len page.old < most → most ≤ vec_capacity page.old → IsPage most page.new }
+    ensures after { (most : ℕ) → vec_len after.old < most → most ≤ vec_capacity after.old → IsPage most after.new }
 {
-    if offset <= HALF {
+    let half = page.len();
+    if offset <= half {
         put(page, offset, item);
     } else {
-        put(after, offset - HALF, item);
+        put(after, offset - half, item);
     }
 }
 
 // Moves the upper half of a full page to a fresh one.
-fn halve<T: Drop>(page: &mut Vec<T>, fresh: &mut Vec<T>)
-    requires full { vec_len page.old ≡ MOST }
-    requires fresh { IsFresh fresh.old }
+fn halve<T: Drop>(page: &mut Vec<T>, fresh: &mut Vec<T>, most: usize)
+    requires some { 2 ≤ most }
+    requires full { vec_len page.old ≡ most }
+    requires fresh { IsFresh most fresh.old }
     ensures items { page.new.items ++ fresh.new.items ≡ page.old.items }
-    ensures page { vec_len page.new ≡ HALF }
+    ensures all { vec_len page.new + vec_len fresh.new ≡ most }
+    ensures page { (1 ≤ vec_len page.new) × (vec_len page.new < most) }
     ensures page_space { vec_capacity page.old ≤ vec_capacity page.new }
-    ensures fresh { vec_len fresh.new ≡ HALF }
+    ensures fresh { (1 ≤ vec_len fresh.new) × (vec_len fresh.new < most) }
     ensures fresh_space { vec_capacity fresh.old ≤ vec_capacity fresh.new }
 {
-    for _ in 0..HALF {
+    for _ in 0..most / 2 {
         fresh.push_reserved(page.take_last());
     }
     fresh.reverse();
@@ -106,29 +102,31 @@ fn halve<T: Drop>(page: &mut Vec<T>, fresh: &mut Vec<T>)
 
 // Puts an item into a full page, part of which goes on in a fresh one: the upper half, or the item alone where it goes
 // after all others.
-fn spill<T: Drop>(page: &mut Vec<T>, fresh: &mut Vec<T>, offset: usize, item: T)
-    requires full { vec_len page.old ≡ MOST }
-    requires fresh { IsFresh fresh.old }
-    requires offset { offset ≤ MOST }
+fn spill<T: Drop>(page: &mut Vec<T>, fresh: &mut Vec<T>, most: usize, offset: usize, item: T)
+    requires some { 2 ≤ most }
+    requires full { vec_len page.old ≡ most }
+    requires page_space { most ≤ vec_capacity page.old }
+    requires fresh { IsFresh most fresh.old }
+    requires offset { offset ≤ most }
     ensures items { page.new.items ++ fresh.new.items ≡ insert page.old.items offset item }
-    ensures page { IsPage page.new }
-    ensures fresh { IsPage fresh.new }
+    ensures page { IsPage most page.new }
+    ensures fresh { IsPage most fresh.new }
 {
-    if offset == MOST {
+    if offset == most {
         fresh.push_reserved(item);
     } else {
-        halve(page, fresh);
+        halve(page, fresh, most);
         put_in_half(page, fresh, offset, item);
     }
 }
 
 // Puts an item into a page that is not full.
-pub(crate) fn put_at<T: Drop>(pages: &mut Vec<Vec<T>>, at: At, item: T)
-    requires pages { ArePages pages.old.items }
+pub(crate) fn put_at<T: Drop>(pages: &mut Vec<Vec<T>>, most: usize, at: At, item: T)
+    requires pages { ArePages most pages.old.items }
     requires page { at.page < vec_len pages.old }
     requires gap { IsGap (lists pages.old.items) at }
-    requires space { length (page_at (lists pages.old.items) at.page) < MOST }
-    ensures pages { ArePages pages.new.items }
+    requires space { length (page_at (lists pages.old.items) at.page) < most }
+    ensures pages { ArePages most pages.new.items }
     ensures items { items (lists pages.new.items) ≡ insert (items (lists pages.old.items)) (index_of (lists pages.old.items) at) item }
     ensures len { vec_len pages.new ≡ vec_len pages.old }
     ensures capacity { vec_capacity pages.new ≡ vec_capacity pages.old }
@@ -137,29 +135,36 @@ pub(crate) fn put_at<T: Drop>(pages: &mut Vec<Vec<T>>, at: At, item: T)
 }
 
 // Puts an item into a full page, which goes on in a fresh one after it.
-pub(crate) fn put_in_full<T: Drop>(pages: &mut Vec<Vec<T>>, at: At, fresh: Vec<T>, item: T)
-    requires pages { ArePages pages.old.items }
+pub(crate) fn put_in_full<T: Drop>(
+    pages: &mut Vec<Vec<T>>,
+    most: usize,
+    at: At,
+    fresh: Vec<T>,
+    item: T,
+)
+    requires some { 2 ≤ most }
+    requires pages { ArePages most pages.old.items }
     requires page { at.page < vec_len pages.old }
     requires gap { IsGap (lists pages.old.items) at }
-    requires full { length (page_at (lists pages.old.items) at.page) ≡ MOST }
-    requires fresh { IsFresh fresh }
+    requires full { length (page_at (lists pages.old.items) at.page) ≡ most }
+    requires fresh { IsFresh most fresh }
     requires space { vec_len pages.old < vec_capacity pages.old }
-    ensures pages { ArePages pages.new.items }
+    ensures pages { ArePages most pages.new.items }
     ensures items { items (lists pages.new.items) ≡ insert (items (lists pages.old.items)) (index_of (lists pages.old.items) at) item }
     ensures len { vec_len pages.new ≡ vec_len pages.old + 1 }
     ensures capacity { vec_capacity pages.old ≤ vec_capacity pages.new }
 {
     let mut after = fresh;
-    spill(&mut pages[at.page], &mut after, at.offset, item);
+    spill(&mut pages[at.page], &mut after, most, at.offset, item);
     put_page(pages, at.page + 1, after);
 }
 
 // The first page, with one item.
 pub(crate) fn begin<T: Drop>(pages: &mut Vec<Vec<T>>, fresh: Vec<T>, item: T)
     requires none { vec_len pages.old ≡ 0 }
-    requires fresh { IsFresh fresh }
+    requires fresh { (fresh.items ≡ []) × (1 ≤ vec_capacity fresh) }
     requires space { vec_len pages.old < vec_capacity pages.old }
-    ensures pages { ArePages pages.new.items }
+    ensures pages { (most : ℕ) → 1 ≤ most → most ≤ vec_capacity fresh → ArePages most pages.new.items }
     ensures items { lists pages.new.items ≡ (item ∷ []) ∷ [] }
     ensures len { vec_len pages.new ≡ 1 }
     ensures capacity { vec_capacity pages.old ≤ vec_capacity pages.new }
@@ -171,9 +176,8 @@ pub(crate) fn begin<T: Drop>(pages: &mut Vec<Vec<T>>, fresh: Vec<T>, item: T)
 
 // Writes an item in the place of another.
 pub(crate) fn write_at<T: Drop>(pages: &mut Vec<Vec<T>>, at: At, item: T)
-    requires pages { ArePages pages.old.items }
     requires item { IsItem (lists pages.old.items) at }
-    ensures pages { ArePages pages.new.items }
+    ensures pages { (most : ℕ) → ArePages most pages.old.items → ArePages most pages.new.items }
     ensures items { lists pages.new.items ≡ slice_set (lists pages.old.items) at.page (slice_set (page_at (lists pages.old.items) at.page) at.offset item) }
     ensures len { vec_len pages.new ≡ vec_len pages.old }
     ensures capacity { vec_capacity pages.new ≡ vec_capacity pages.old }
@@ -184,9 +188,8 @@ pub(crate) fn write_at<T: Drop>(pages: &mut Vec<Vec<T>>, at: At, item: T)
 
 // Takes an item out of its page, and the page with it if it was the only one.
 pub(crate) fn take_out<T: Drop>(pages: &mut Vec<Vec<T>>, at: At)
-    requires pages { ArePages pages.old.items }
     requires item { IsItem (lists pages.old.items) at }
-    ensures pages { ArePages pages.new.items }
+    ensures pages { (most : ℕ) → ArePages most pages.old.items → ArePages most pages.new.items }
     ensures items { items (lists pages.new.items) ≡ removed (items (lists pages.old.items)) (index_of (lists pages.old.items) at) }
     ensures len { vec_len pages.new ≤ vec_len pages.old }
     ensures capacity { vec_capacity pages.new ≡ vec_capacity pages.old }

@@ -1,4 +1,4 @@
-//! Items in an order of one's own, in pages of at most 64, so that one that comes or goes moves at most a page, and not
+//! Items in an order of one's own, in pages of a few, so that one that comes or goes moves at most a page, and not
 //! all that stand after it.
 //!
 //! A contract sees [`Pages`] as the list of its pages, each the list of its items, and how many more can be inserted

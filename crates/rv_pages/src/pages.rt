@@ -5,14 +5,14 @@ ghost use Rattle.std.specs.List.Sorted.{IsSearchInRange, IsBinarySearchResult};
 ghost use Rattle.rv_pages.specs.Paging.{items, index_of, place, IsItem, IsGap, Rises};
 
 use crate::at::At;
-use crate::edits::{MOST, begin, fill, put_at, put_in_full, take_out, write_at};
+use crate::edits::{begin, fill, put_at, put_in_full, take_out, write_at};
 use crate::search::{Compare, position_in, ties_in};
 use crate::walk::Walk;
 use rv_base::Memory;
 use std::alloc::Global;
 use std::marker::Model;
 
-/// Items in an order of one's own, in pages of at most 64.
+/// Items in an order of one's own, in pages of at most so many as they were made for.
 ///
 /// A contract sees the list of the pages, each the list of its items, and a lower bound of how many more can be
 /// inserted without memory, `spare`.
@@ -22,6 +22,8 @@ pub struct Pages<T> {
     pages: Vec<Vec<T>>,
     // empty ones that stand by, one for each item that can be inserted; among the pages there is space for all of them
     fresh: Vec<Vec<T>>,
+    // how many items a page has at most
+    most: usize,
     alloc: Global,
 }
 
@@ -34,18 +36,19 @@ impl<T> Model for Pages<T> {
 
     ghost view = { λ p. record { pages = lists p.pages.items; spare = vec_len p.fresh } };
 
-    ghost invariant = { λ p. ArePages p.pages.items × AreFresh p.fresh.items × (vec_len p.pages + vec_len p.fresh ≤ vec_capacity p.pages) };
+    ghost invariant = { λ p. ArePages p.most p.pages.items × AreFresh p.most p.fresh.items × (vec_len p.pages + vec_len p.fresh ≤ vec_capacity p.pages) × (2 ≤ p.most) };
 }
 
 impl<T: Drop> Pages<T> {
-    /// No item.
-    pub fn new(alloc: Global) -> Self
+    /// No item, in pages that are to have at most so many, and two at least.
+    pub fn new(alloc: Global, most: usize) -> Self
         ensures pages { result.pages ≡ [] }
         ensures items { items result.pages ≡ [] }
     {
         Pages {
             pages: Vec::new(alloc),
             fresh: Vec::new(alloc),
+            most: most.max(2),
             alloc,
         }
     }
@@ -63,7 +66,7 @@ impl<T: Drop> Pages<T> {
         }
         self.pages.reserve(more)?;
         self.fresh.reserve(more - standing_by)?;
-        fill(&mut self.fresh, self.alloc, more)
+        fill(&mut self.fresh, self.alloc, self.most, more)
     }
 
     /// Where an item that ties with what is looked for stands, or where one would go. Takes no memory.
@@ -105,11 +108,11 @@ impl<T: Drop> Pages<T> {
         if self.pages.is_empty() {
             let page = self.fresh.take_last();
             begin(&mut self.pages, page, item);
-        } else if self.pages[at.page].len() < MOST {
-            put_at(&mut self.pages, at, item);
+        } else if self.pages[at.page].len() < self.most {
+            put_at(&mut self.pages, self.most, at, item);
         } else {
             let page = self.fresh.take_last();
-            put_in_full(&mut self.pages, at, page, item);
+            put_in_full(&mut self.pages, self.most, at, page, item);
         }
     }
 

@@ -24,6 +24,10 @@ use rv_pages::{At, Pages};
 use std::alloc::Global;
 use std::marker::Model;
 
+// How many slots a page of an order has at most. Where a page is split the list of all pages moves, 24 bytes for each, so pages are as large
+// as moving within one is cheap: of 256 slots some 400 bytes.
+const PAGE: usize = 256;
+
 // Rows with their versions, found by their keys, by their lists, by the users whom they name, and by their sorts in their lists.
 #[derive(Debug, Drop)]
 pub(crate) struct IndexedRows {
@@ -60,10 +64,10 @@ impl IndexedRows {
     {
         IndexedRows {
             slots: Vec::new(alloc),
-            by_key: Pages::new(alloc),
-            by_list: Pages::new(alloc),
-            by_user: Pages::new(alloc),
-            by_sort: Pages::new(alloc),
+            by_key: Pages::new(alloc, PAGE),
+            by_list: Pages::new(alloc, PAGE),
+            by_user: Pages::new(alloc, PAGE),
+            by_sort: Pages::new(alloc, PAGE),
             spare: 0,
         }
     }

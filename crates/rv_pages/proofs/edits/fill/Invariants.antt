@@ -4,4 +4,4 @@ use Rattle.rv_pages.proofs.edits.fill.Given as goal
 
 abbrev pub invariant-loop : goal.invariant-loop
 invariant-loop g l =
-    AreFresh l.fresh.items × (vec_len l.fresh ≡ l.counter) × (vec_capacity l.initial.fresh ≤ vec_capacity l.fresh)
+    AreFresh l.most l.fresh.items × (vec_len l.fresh ≡ l.counter) × (vec_capacity l.initial.fresh ≤ vec_capacity l.fresh)
