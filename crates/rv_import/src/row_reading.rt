@@ -14,6 +14,7 @@ use csv::ByteRecord;
 use json::{Scratch, Value};
 use rv_base::Memory;
 use rv_json::read_json;
+use rv_record::texts_fit;
 use rv_rows::{Row, read_row};
 use std::alloc::Global;
 
@@ -21,28 +22,7 @@ use std::alloc::Global;
 pub(crate) fn is_row(row: &Row)
     ensures { IsRow row.now }
 {
-    match row {
-        Row::Extent(row) => {
-            let _ = row.user.as_str().as_bytes();
-            row.lists.ids_fit();
-        }
-        Row::List(row) => {
-            let _ = row.id.as_str().as_bytes();
-            let _ = row.name.as_str().as_bytes();
-            let _ = row.owner.as_str().as_bytes();
-        }
-        Row::Share(row) => {
-            let _ = row.id.as_str().as_bytes();
-            let _ = row.list.as_str().as_bytes();
-            let _ = row.user.as_str().as_bytes();
-        }
-        Row::Todo(row) => {
-            let _ = row.id.as_str().as_bytes();
-            let _ = row.list.as_str().as_bytes();
-            let _ = row.text.as_str().as_bytes();
-            let _ = row.sort.get();
-        }
-    }
+    texts_fit(row);
 }
 
 // The row that a value is, where it is exactly the value of one.

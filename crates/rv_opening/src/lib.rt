@@ -5,10 +5,8 @@
 #![tactic(auto)]
 
 mod checking;
-mod fitting;
 mod page_read;
 mod reading;
 
-pub use fitting::{client_fits, group_fits, row_fits};
 pub use page_read::PageRead;
 pub use reading::read_page;

@@ -5,13 +5,13 @@ ghost use Rattle.rv_keeper.specs.Cells.{cell_key};
 ghost use Rattle.rv_opening.specs.PageReads.{BeginsWith, Follows, HasBegun, TakesNext};
 
 use crate::checking::{client_follows, is_within, row_follows};
-use crate::fitting::{client_fits, group_fits, place_fits, row_fits};
 use json::Scratch;
 use rv_base::Sequence;
 use rv_book::Page;
 use rv_keeper::Cell;
 use rv_record::{
-    CellFault, damaged, page_client_of_cell, page_group_of_cell, page_of_cell, page_row_of_cell,
+    CellFault, client_fits, damaged, group_fits, page_client_of_cell, page_group_of_cell,
+    page_of_cell, page_row_of_cell, place_fits, row_fits,
 };
 use rv_rows::Tables;
 use std::alloc::Global;

@@ -10,6 +10,7 @@ mod cells;
 mod client_reading;
 mod entry_reading;
 mod fault;
+mod fitting;
 mod page_reading;
 mod places;
 mod row_reading;
@@ -26,6 +27,10 @@ pub use cells::{
 pub use client_reading::{client_of_cell, group_of_cell, page_client_of_cell, page_group_of_cell};
 pub use entry_reading::entry_of_cell;
 pub use fault::{CellFault, Damage, damaged};
+pub use fitting::{
+    act_fits, client_fits, entry_fits, group_fits, id_fits, look_fits, place_fits, row_fits,
+    texts_fit,
+};
 pub use page_reading::page_of_cell;
 pub use places::ten_digits;
 pub use row_reading::{page_row_of_cell, row_of_cell};

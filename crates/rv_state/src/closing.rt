@@ -20,7 +20,7 @@ use crate::state::State;
 use rv_base::{Id, Memory, Num, Sequence, User};
 use rv_book::{Book, Page};
 use rv_news::Records;
-use rv_opening::{client_fits, group_fits, row_fits};
+use rv_record::{client_fits, group_fits, row_fits};
 use rv_rows::{Row, Tables};
 use std::alloc::Global;
 

@@ -4,13 +4,12 @@ ghost use Rattle.rv_book.specs.Book.{size};
 ghost use Rattle.rv_history.specs.Lawful.{IsLawfulAfter};
 ghost use Rattle.rv_state.specs.Entering.{EntersNext, ReadsNext};
 
-use crate::fitting::entry_fits;
 use crate::lawful::may_stand;
 use crate::state::State;
 use json::Scratch;
 use rv_book::{Book, Entry};
 use rv_keeper::Cell;
-use rv_record::{CellFault, damaged, entry_of_cell};
+use rv_record::{CellFault, damaged, entry_fits, entry_of_cell};
 use std::alloc::Global;
 
 // Whether the entry at this place may come next.

@@ -6,14 +6,12 @@
 
 mod closing;
 mod entering;
-mod fitting;
 mod known;
 mod lawful;
 mod marks;
 mod prepared;
 mod state;
 
-pub use fitting::entry_fits;
 pub use lawful::may_stand;
 pub use prepared::{Prepared, PreparedAct, PreparedLook};
 pub use state::State;

@@ -6,7 +6,6 @@ ghost use Rattle.rv_book.specs.declared.entry.Entry.TheVariants.{Act, Look, Reti
 ghost use Rattle.rv_book.specs.Book.{empty_book, size};
 ghost use Rattle.rv_news.specs.News.{IsNews, IsTold, is_base_since};
 
-use crate::fitting::{act_fits, id_fits, look_fits};
 use crate::known::{find, find_group, with_known_list, with_known_names};
 use crate::marks::UserMarks;
 use crate::prepared::{Prepared, PreparedAct, PreparedLook};
@@ -14,6 +13,7 @@ use rv_base::{Id, Memory, Num, Steps, User};
 use rv_book::{Book, BookFault, Entry, Found};
 use rv_mutators::{Staged, stage};
 use rv_news::{News, Records, news_for, view_now};
+use rv_record::{act_fits, id_fits, look_fits};
 use rv_rows::{Call, Tables, Users};
 use rv_sharing::add_user;
 use rv_turns::{PullReply, PullRequest};

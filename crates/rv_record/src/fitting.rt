@@ -1,11 +1,14 @@
-// That entries are of the form: their types have it so.
+// That values are of the form that is kept. Their types have it so, and these functions do nothing: their contracts say it where a proof
+// asks for it, since the tool tells what an invariant says only where a method of the type is called.
 ghost use Rattle.std.specs.Prelude.{◌<◌, ◌^◌};
-ghost use Rattle.rv_record.specs.CellReading.{IsText};
+ghost use Rattle.rv_rows.specs.RowTexts.{RowIsWithin};
+ghost use Rattle.rv_record.specs.CellReading.{ClientFits, GroupFits, IsText, PageFits};
 ghost use Rattle.rv_record.specs.EntryReading.{CallFits, EntryFits, IfThere, ListsFit};
+ghost use Rattle.rv_record.specs.RowReading.{HasTexts, RowFits};
 
 use rv_base::{Bounded, Id, Num, Text, User};
 use rv_book::Entry;
-use rv_rows::{Call, Lists};
+use rv_rows::{Call, Lists, Row};
 
 // A text is within its bounds, and UTF-8.
 fn text_fits<const MIN: usize, const MAX: usize>(text: &Bounded<MIN, MAX>)
@@ -14,7 +17,8 @@ fn text_fits<const MIN: usize, const MAX: usize>(text: &Bounded<MIN, MAX>)
     let _bytes = text.as_str().as_bytes();
 }
 
-pub(crate) fn id_fits(id: &Id)
+/// An id is within its bounds, and UTF-8.
+pub fn id_fits(id: &Id)
     ensures { IsText 1 128 id.now }
 {
     text_fits(id);
@@ -99,8 +103,8 @@ fn call_fits(call: &Call)
     }
 }
 
-// The texts and the numbers of an act are within their bounds, and its texts are UTF-8.
-pub(crate) fn act_fits(user: &User, group: &Id, client: &Id, id: Num, call: &Call)
+/// The texts and the numbers of an act are within their bounds, and its texts are UTF-8.
+pub fn act_fits(user: &User, group: &Id, client: &Id, id: Num, call: &Call)
     ensures { IsText 1 64 user.now × IsText 1 128 group.now × IsText 1 128 client.now × (id < 2 ^ 53) × CallFits call.now }
 {
     user_fits(user);
@@ -110,8 +114,8 @@ pub(crate) fn act_fits(user: &User, group: &Id, client: &Id, id: Num, call: &Cal
     call_fits(call);
 }
 
-// The same of a look.
-pub(crate) fn look_fits(user: &User, group: &Id, order: Num, base: Option<u32>)
+/// The texts and the numbers of a look are within their bounds, and its texts are UTF-8.
+pub fn look_fits(user: &User, group: &Id, order: Num, base: Option<u32>)
     ensures { IsText 1 64 user.now × IsText 1 128 group.now × (order < 2 ^ 53) × IfThere (λ n. n < 2 ^ 32) base }
 {
     user_fits(user);
@@ -126,8 +130,7 @@ fn place_fits_if_there(place: Option<u32>)
     if let Some(_place) = place {}
 }
 
-/// The texts and the numbers of an entry are within their bounds, and its texts are UTF-8, as its types have it. It does nothing:
-/// its contract is what is said of every entry.
+/// The texts and the numbers of an entry are within their bounds, and its texts are UTF-8.
 pub fn entry_fits(entry: &Entry)
     ensures { EntryFits entry.now }
 {
@@ -147,4 +150,64 @@ pub fn entry_fits(entry: &Entry)
         } => look_fits(user, group, *order, *base),
         Entry::Retire { group } => id_fits(group),
     }
+}
+
+/// A place is one of a page's cell.
+pub fn place_fits(place: u32)
+    ensures { PageFits place }
+{
+    let _place = place;
+}
+
+/// The texts and the numbers of a row are within their bounds, and its texts are UTF-8.
+pub fn texts_fit(row: &Row)
+    ensures { RowIsWithin row.now × HasTexts row.now }
+{
+    match row {
+        Row::Extent(row) => {
+            user_fits(&row.user);
+            row.lists.ids_fit();
+        }
+        Row::List(row) => {
+            id_fits(&row.id);
+            words_fit(&row.name);
+            user_fits(&row.owner);
+        }
+        Row::Share(row) => {
+            id_fits(&row.id);
+            id_fits(&row.list);
+            user_fits(&row.user);
+        }
+        Row::Todo(row) => {
+            id_fits(&row.id);
+            id_fits(&row.list);
+            words_fit(&row.text);
+            number_fits(row.sort);
+        }
+    }
+}
+
+/// A row with its version is of the form of a cell's.
+pub fn row_fits(row: &Row, version: u32)
+    ensures { RowFits (row.now, version) }
+{
+    texts_fit(row);
+}
+
+/// A client with its group and its last mutation id is of the form of a cell's.
+pub fn client_fits(client: &Id, group: &Id, last: Num)
+    ensures { ClientFits (client.now, group.now, last) }
+{
+    id_fits(client);
+    id_fits(group);
+    number_fits(last);
+}
+
+/// A group with its user, the order of its last look and whether it is retired is of the form of a cell's.
+pub fn group_fits(group: &Id, user: &User, order: Num, retired: bool)
+    ensures { GroupFits (group.now, user.now, order, retired) }
+{
+    id_fits(group);
+    user_fits(user);
+    number_fits(order);
 }
