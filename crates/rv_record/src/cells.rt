@@ -1,4 +1,4 @@
-ghost use Rattle.std.specs.Prelude.{◌≡◌, IfOk};
+ghost use Rattle.std.specs.Prelude.{◌≡◌, [], IfOk};
 ghost use Rattle.std.specs.Str.{IsUtf8};
 ghost use Rattle.serde_json.specs.Data.{number, unsigned};
 ghost use Rattle.serde_json.specs.Written.{compact_text};
@@ -23,6 +23,19 @@ use rv_rows::{Call, Row};
 use rv_views::ViewRecord;
 use std::alloc::Global;
 
+// Room for the text of most entries and rows, and for that of most other cells, so that it is seldom moved while it grows.
+const LONG: usize = 128;
+
+const SHORT: usize = 32;
+
+// What writes a text that is likely so long.
+fn begin(alloc: Global, likely: usize) -> Result<Writer, Memory>
+    ensures before { IfOk result (λ out. out.before ≡ []) }
+    ensures tokens { IfOk result (λ out. out.tokens ≡ []) }
+{
+    Ok(Writer::new(Vec::with_capacity(alloc, likely)?))
+}
+
 fn act_text(
     alloc: Global,
     user: &User,
@@ -34,7 +47,7 @@ fn act_text(
     ensures text { IfOk result (λ text. text ≡ compact_text (entry_data (Act user.now group.now client.now id call.now))) }
     ensures utf8 { IfOk result IsUtf8 }
 {
-    let mut out = Writer::new(Vec::new(alloc));
+    let mut out = begin(alloc, LONG)?;
     write_act(&mut out, user, group, client, id, call)?;
     Ok(Sequence::from_vec(out.into_inner()))
 }
@@ -49,7 +62,7 @@ fn look_text(
     ensures text { IfOk result (λ text. text ≡ compact_text (entry_data (Look user.now group.now order base))) }
     ensures utf8 { IfOk result IsUtf8 }
 {
-    let mut out = Writer::new(Vec::new(alloc));
+    let mut out = begin(alloc, SHORT)?;
     write_look(&mut out, user, group, order, base)?;
     Ok(Sequence::from_vec(out.into_inner()))
 }
@@ -58,7 +71,7 @@ fn retirement_text(alloc: Global, group: &Id) -> Result<Bytes, Memory>
     ensures text { IfOk result (λ text. text ≡ compact_text (entry_data (Retire group.now))) }
     ensures utf8 { IfOk result IsUtf8 }
 {
-    let mut out = Writer::new(Vec::new(alloc));
+    let mut out = begin(alloc, SHORT)?;
     write_retirement(&mut out, group)?;
     Ok(Sequence::from_vec(out.into_inner()))
 }
@@ -67,7 +80,7 @@ fn row_body_text(alloc: Global, row: &Row, version: u32) -> Result<Bytes, Memory
     ensures text { IfOk result (λ text. text ≡ compact_text (row_body row.now version)) }
     ensures utf8 { IfOk result IsUtf8 }
 {
-    let mut out = Writer::new(Vec::new(alloc));
+    let mut out = begin(alloc, LONG)?;
     write_row_body(&mut out, row, version)?;
     Ok(Sequence::from_vec(out.into_inner()))
 }
@@ -76,7 +89,7 @@ fn page_text(alloc: Global, place: u32) -> Result<Bytes, Memory>
     ensures text { IfOk result (λ text. text ≡ compact_text (number (unsigned place))) }
     ensures utf8 { IfOk result IsUtf8 }
 {
-    let mut out = Writer::new(Vec::new(alloc));
+    let mut out = begin(alloc, SHORT)?;
     write_place(&mut out, place)?;
     Ok(Sequence::from_vec(out.into_inner()))
 }
@@ -85,7 +98,7 @@ fn client_text(alloc: Global, group: &Id, last: Num) -> Result<Bytes, Memory>
     ensures text { IfOk result (λ text. text ≡ compact_text (client_body group.now last)) }
     ensures utf8 { IfOk result IsUtf8 }
 {
-    let mut out = Writer::new(Vec::new(alloc));
+    let mut out = begin(alloc, SHORT)?;
     write_pair(&mut out, group.as_str(), last.get())?;
     Ok(Sequence::from_vec(out.into_inner()))
 }
@@ -94,7 +107,7 @@ fn group_text(alloc: Global, user: &User, order: Num, retired: bool) -> Result<B
     ensures text { IfOk result (λ text. text ≡ compact_text (group_body user.now order retired)) }
     ensures utf8 { IfOk result IsUtf8 }
 {
-    let mut out = Writer::new(Vec::new(alloc));
+    let mut out = begin(alloc, SHORT)?;
     write_group_body(&mut out, user, order, retired)?;
     Ok(Sequence::from_vec(out.into_inner()))
 }
@@ -104,7 +117,7 @@ fn view_text(alloc: Global, view: &ViewRecord) -> Result<Bytes, Memory>
     ensures utf8 { IfOk result IsUtf8 }
 {
     let mut key_text = String::new(alloc);
-    let mut out = Writer::new(Vec::new(alloc));
+    let mut out = begin(alloc, LONG)?;
     write_view(&mut out, &mut key_text, view)?;
     Ok(Sequence::from_vec(out.into_inner()))
 }

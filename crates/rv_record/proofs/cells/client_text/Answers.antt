@@ -4,7 +4,7 @@ use Rattle.rv_record.proofs.WritingLaws.{text_of, utf8_of}
 use Rattle.rv_record.proofs.cells.client_text.Goals as goal
 
 pub returns-clause-text : goal.returns-clause-text
-returns-clause-text c = text_of (client_body c.args.group.now c.args.last) _ _ _ _ _ (c.from_vec.ensures ∙ c.into_inner.ensures.items) c.in_ok-write_pair.ensures.0 (rw (c.as_str.ensures.value, c.get.ensures.value) at c.in_ok-write_pair.ensures.1) (c.new-out.ensures.before ∙ c.new.ensures.items) c.new-out.ensures.tokens
+returns-clause-text c = text_of (client_body c.args.group.now c.args.last) _ _ _ _ _ (c.from_vec.ensures ∙ c.into_inner.ensures.items) c.in_ok-write_pair.ensures.0 (rw (c.as_str.ensures.value, c.get.ensures.value) at c.in_ok-write_pair.ensures.1) c.in_ok-out.ensures.before c.in_ok-out.ensures.tokens
 
 pub returns-clause-utf8 : goal.returns-clause-utf8
-returns-clause-utf8 c = utf8_of _ _ _ _ (c.from_vec.ensures ∙ c.into_inner.ensures.items) c.in_ok-write_pair.ensures.0 (c.new-out.ensures.before ∙ c.new.ensures.items) c.into_inner.ensures.utf8
+returns-clause-utf8 c = utf8_of _ _ _ _ (c.from_vec.ensures ∙ c.into_inner.ensures.items) c.in_ok-write_pair.ensures.0 c.in_ok-out.ensures.before c.into_inner.ensures.utf8
