@@ -1,8 +1,7 @@
 // Looking into a value.
-ghost use Rattle.std.specs.Prelude.{◌≡◌, IfOk, OnOk, is_some, option_map, option_and_then};
-ghost use Rattle.json.specs.Value.{value_view};
+ghost use Rattle.std.specs.Prelude.{◌≡◌, is_some, option_map, option_and_then};
 ghost use Rattle.serde_json.specs.Find.{as_array, as_bool, as_null, as_number, as_object, as_str, as_u64, at, get};
-ghost use Rattle.rv_json.specs.ValueData.{value_data, items_data, members_data};
+ghost use Rattle.rv_json.specs.ValueData.{value_data, items_data};
 
 use crate::numbers::whole_number;
 use json::Value;

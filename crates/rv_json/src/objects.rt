@@ -1,5 +1,5 @@
 // The members of an object, in the order of their names.
-ghost use Rattle.std.specs.Prelude.{◌≡◌, IfOk, Some, None, option_map};
+ghost use Rattle.std.specs.Prelude.{◌≡◌, IfOk, option_map};
 ghost use Rattle.json.specs.Value.{members_view};
 ghost use Rattle.serde_json.specs.Data.{no_members};
 ghost use Rattle.serde_json.specs.Find.{as_object};

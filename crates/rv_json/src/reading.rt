@@ -1,5 +1,5 @@
 // From a text to the value that it is.
-ghost use Rattle.std.specs.Prelude.{◌≡◌, IfOk, Some, None, option_map};
+ghost use Rattle.std.specs.Prelude.{◌≡◌, IfOk, option_map};
 ghost use Rattle.json.specs.Value.{value_view};
 ghost use Rattle.serde_json.specs.Read.{of_json, read};
 ghost use Rattle.rv_json.specs.JsonTexts.{json_in};
