@@ -8,7 +8,7 @@ use Rattle.serde_json.specs.Data as values
 use Rattle.serde_json.specs.Data.{Data, put}
 use Rattle.serde_json.specs.Read.{number_of}
 
--- the number that a text is, and an infinite one where it is out of range: a document with such a number is refused whole
+-- the number that a text is, and some float where it is out of range: a document with such a number is refused whole
 abbrev pub num_of : List ℕ → values.Num
 num_of s = unwrap_or (number_of s) (values.float (nearest binary64 false (scan s)))
 
