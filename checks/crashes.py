@@ -10,7 +10,6 @@ request adds. So it goes from the making of a new file on, over commits, closing
 Where one sync is left out of what is read, or each of the log's, a state must be found that breaks this: the check is shown to fail. Ends
 with status 1 where a state breaks it, or where leaving out a sync breaks nothing.
 """
-import copy
 import http.client
 import json
 import os
@@ -23,8 +22,10 @@ import tempfile
 import threading
 import time
 
-from kills import held, parts
-from model import Requests, Server, answer_of, cells
+from kept import held, model_held
+from model import Server, answer_of
+from outcomes import outcomes
+from scripts import Requests
 
 CALLS = "openat,close,pwrite64,write,writev,sendto,sendmsg,fsync,fdatasync,ftruncate"
 HEX = re.compile(r"\\x([0-9a-f]{2})")
@@ -168,13 +169,8 @@ def books_of(requests, seen):
     """The cells and the length of the book after so many requests, and those that the next one may add."""
     server, books = Server(), []
     for number, request in enumerate([*requests, None]):
-        ways = [(cells(server), len(server.book))] if seen(number) else None
-        if ways is not None and request is not None:
-            for part in parts(request):
-                way = copy.deepcopy(server)
-                way.answer(part)
-                ways.append((cells(way), len(way.book)))
-        books.append(ways)
+        ways = outcomes(server, [request], [None]) if request else [server]
+        books.append([model_held(way) for way in ways] if seen(number) else None)
         if request is not None:
             answer_of(server, request)
     return books

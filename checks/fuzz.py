@@ -40,8 +40,8 @@ import tomllib
 import traceback
 
 from holding import held, without_cells
-from model import generated
 from mutating import any_value, changed, json_text, mutant
+from scripts import generated
 
 # how many seconds a run may take, and how many where it is tried again, or a connection
 LIMIT, LONGER_LIMIT = 2.0, 10.0

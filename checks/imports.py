@@ -19,8 +19,9 @@ import sys
 import tempfile
 import time
 
-from model import Requests, Server, answer_of, by_key, cells, in_order, more, text_of
-from stores import feed, read
+from kept import feed, read
+from model import Server, cells, in_order, text_of
+from scripts import Requests, more
 
 LIMIT = 16 * 1024 * 1024
 HEADER = [b"list", b"text", b"complete"]

@@ -8,59 +8,20 @@ was written and not answered may stand there or not, or, of a push of several mu
 killed as often, over copies of one store of more than a thousand entries: the store must be that before or that after. Ends with status 1
 where an answer is lost or differs.
 """
-import copy
 import json
 import os
 import random
 import shutil
-import sqlite3
 import subprocess
 import sys
 import tempfile
 import threading
 import time
 
-from model import Requests, Server, answer_of, cells
-
-
-def held(path, folder):
-    """The cells and the generation of a copy of the file and its log, as sqlite3 reads them.
-
-    A file that was being made holds nothing yet; the next run of the program, which must answer, finishes it.
-    """
-    copied = os.path.join(folder, "copy.db")
-    for end in ("", "-wal"):
-        if os.path.exists(path + end):
-            shutil.copyfile(path + end, copied + end)
-    connection = sqlite3.connect(copied)
-    try:
-        rows = connection.execute("SELECT shelf, k, body FROM cell").fetchall()
-    except sqlite3.DatabaseError:
-        rows = []
-    connection.close()
-    for end in ("", "-wal", "-shm"):
-        if os.path.exists(copied + end):
-            os.remove(copied + end)
-    found = {(shelf, key.decode()): body.decode() for shelf, key, body in rows}
-    return found, int(found.pop((0, ""), "0"))
-
-
-def parts(request):
-    """The fronts of a request that may have been run where it was not answered: of a push its first mutations."""
-    if "push" not in request:
-        return [request]
-    mutations = request["push"]["mutations"]
-    return [{**request, "push": {**request["push"], "mutations": mutations[:count]}} for count in range(1, len(mutations) + 1)]
-
-
-def outcomes(server, unanswered):
-    """The servers that may be there after a kill."""
-    ways = [server]
-    for request in [] if unanswered is None else parts(unanswered):
-        way = copy.deepcopy(server)
-        way.answer(request)
-        ways.append(way)
-    return ways
+from kept import held, model_held
+from model import Server, answer_of
+from outcomes import outcomes
+from scripts import Requests
 
 
 def ask(run, server, requests):
@@ -146,9 +107,9 @@ def check_closings(program, chance, kills, folder):
     run = subprocess.run([program, "feed", path], input=text, stdout=subprocess.PIPE, check=True)
     if run.stdout.decode() != "".join(answer_of(server, request) + "\n" for request in asked):
         sys.exit("the large store was answered otherwise")
-    before = cells(server), len(server.book)
+    before = model_held(server)
     server.answer({"closeBook": True})
-    ways = before, (cells(server), len(server.book))
+    ways = before, model_held(server)
     if held(path, folder) != ways[0]:
         sys.exit("the large store has other cells")
     shutil.copyfile(path, path + ".one")
@@ -177,7 +138,7 @@ def main():
             unanswered, count = one_life(program, path, chance, server, requests)
             answered += count
             found = held(path, folder)
-            ways = [way for way in outcomes(server, unanswered) if (cells(way), len(way.book)) == found]
+            ways = [way for way in outcomes(server, [unanswered], [None]) if model_held(way) == found]
             if not ways:
                 sys.exit(f"kill {kill}: what is kept, at generation {found[1]}, is not the book of {len(server.book)} entries")
             left += ways[0] is not server

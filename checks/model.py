@@ -5,7 +5,6 @@ the states before and after each entry. A book that is closed forgets nothing he
 and what follows from a page is found by the whole list before it.
 """
 import json
-import random
 
 GREATEST = 2**53 - 1
 KEPT_LOOKS = 16
@@ -422,104 +421,6 @@ def activity_text(server):
     return lines + [f"groups {len(groups)} retired {sum(server.is_retired(group) for group in groups)}"]
 
 
-USERS = ["ann", "bob", "cat"]
-GROUPS = ["g0", "g1", "g2", "g3", "g4"]
-CLIENTS = ["c0", "c1", "c2", "c3", "c4", "c5"]
-NAMES = {
-    "createList": 3, "deleteList": 1, "createShare": 3, "updateShare": 2, "deleteShare": 2,
-    "createTodo": 4, "updateTodo": 5, "deleteTodo": 2, "setExtent": 3, "paint": 1,
-}
-# names of lists for extents; three of them may be there
-LISTS = ["l0", "l1", "l2", "ä", "L", "l10"]
-# as many lists as an extent may name, and what it can't name
-MANY_LISTS = [["l1"] * MOST_LISTS, [f"l{MOST_LISTS - number}" for number in range(MOST_LISTS)]]
-NO_LISTS = [*([*lists, "l0"] for lists in MANY_LISTS), "l1", 5, False, {}, [""], ["x" * 129], ["l1", None], [["l1"]]]
-
-
-class Requests:
-    """Requests by chance: mostly what clients send, and now and then what they should not. Of so many one closes the book, 0 for none."""
-
-    def __init__(self, chance, server, closes=0):
-        self.chance, self.server, self.closes, self.answered = chance, server, closes, []
-
-    def one_in(self, many):
-        return self.chance.randrange(many) == 0
-
-    def user_of(self, group):
-        return self.chance.choice(USERS) if self.one_in(25) else USERS[int(group[1]) % len(USERS)]
-
-    def lists(self):
-        """What an extent is to name: mostly lists in any order, with repeats, or nothing, and now and then what it can't name."""
-        chance, kind = self.chance, self.chance.randrange(20)
-        if kind < 7:
-            return None
-        if kind < 10:
-            return chance.choice(NO_LISTS if kind < 9 else MANY_LISTS)
-        return [chance.choice(LISTS) for _ in range(chance.randrange(9))]
-
-    def args(self, name, user):
-        chance = self.chance
-        list_id, share, todo = f"l{chance.randrange(3)}", f"s{chance.randrange(4)}", f"t{chance.randrange(5)}"
-        if self.one_in(20):
-            return chance.choice([None, 5, {"id": ""}, "x" * 129])
-        if name == "createList":
-            return {"id": list_id, "name": chance.choice(["Home", ""]), "ownerID": chance.choice([user] * 3 + ["bob"])}
-        if name == "createShare":
-            role = chance.choice([{}, {}, {"role": "view"}, {"role": "edit"}, {"role": chance.choice(["", "Edit", None, 1])}])
-            return {"id": share, "listID": list_id, "userID": chance.choice(USERS), **role}
-        if name == "updateShare":
-            return {"id": share, "role": chance.choice(["view", "view", "edit", "edit", "owner"])}
-        if name == "createTodo":
-            return {"id": todo, "listID": list_id, "text": chance.choice(["milk", 'ä"\\\n']), "complete": self.one_in(2)}
-        if name == "updateTodo":
-            members = {"text": chance.choice(["milk", "eggs"]), "complete": self.one_in(2), "sort": chance.choice([0, 1, GREATEST, -1])}
-            return {"id": todo, **{member: value for member, value in members.items() if self.one_in(2)}}
-        if name == "setExtent":
-            return {"list": "l1"} if self.one_in(20) else {"lists": self.lists()}
-        return {"deleteList": list_id, "deleteShare": share, "deleteTodo": todo}.get(name)
-
-    def push(self):
-        client = self.chance.choice(CLIENTS)
-        group = self.chance.choice(GROUPS) if self.one_in(20) else GROUPS[int(client[1]) % len(GROUPS)]
-        user, number, mutations = self.user_of(group), len(self.server.acts(client)), []
-        for _ in range(self.chance.choice([1, 1, 1, 2, 3])):
-            number += self.chance.choice([1] * 18 + [0, 2])
-            name = self.chance.choices(list(NAMES), list(NAMES.values()))[0]
-            mutations.append({"clientID": client, "id": number, "name": name, "args": self.args(name, user)})
-        return {"user": user, "push": {"pushVersion": 1, "clientGroupID": group, "profileID": "p", "schemaVersion": "", "mutations": mutations}}
-
-    def cookie(self, user, group):
-        mine = [cookie for who, where, cookie in self.answered if (who, where) == (user, group)]
-        kind = self.chance.randrange(100)
-        if kind < 55 and mine:
-            return mine[-1]
-        if kind < 70 and mine:
-            return self.chance.choice(mine[-20:])
-        if kind < 80 and self.answered:
-            return self.chance.choice(self.answered[-40:])[2]
-        if kind < 85 and mine:
-            return {**mine[-1], "order": max(0, mine[-1]["order"] + self.chance.choice([1, -1]))}
-        if kind < 88 and mine:
-            return {**mine[-1], "cvrID": self.chance.choice(["0", " ", "+"]) + mine[-1]["cvrID"]}
-        return self.chance.randrange(30) if kind < 92 else None
-
-    def pull(self):
-        group = self.chance.choice(GROUPS)
-        user = self.user_of(group)
-        return {"user": user, "pull": {"pullVersion": 1, "clientGroupID": group, "profileID": "p", "schemaVersion": "", "cookie": self.cookie(user, group)}}
-
-    def next(self):
-        if self.closes > 0 and self.one_in(self.closes):
-            return {"closeBook": True}
-        if self.one_in(400):
-            return {"retire": self.chance.choice(GROUPS + ["zz"])}
-        return self.push() if self.one_in(2) else self.pull()
-
-    def note(self, request, body):
-        if "pull" in request and "cookie" in body:
-            self.answered.append((request["user"], request["pull"]["clientGroupID"], body["cookie"]))
-
-
 def text_of(value):
     """The compact text of a JSON value, its members in the order of their names."""
     return json.dumps(value, separators=(",", ":"), sort_keys=True, ensure_ascii=False)
@@ -529,21 +430,3 @@ def answer_of(server, request):
     """The line that a request is answered with."""
     status, body = server.answer(request)
     return f"{status} {text_of(body)}"
-
-
-def more(requests, count):
-    """So many more lines of an input, and what they are to be answered."""
-    lines, answers = [], []
-    for _ in range(count):
-        request = requests.next()
-        status, body = requests.server.answer(request)
-        requests.note(request, body)
-        lines.append(json.dumps(request))
-        answers.append(f"{status} {text_of(body)}")
-    return lines, answers
-
-
-def generated(seed, closes=0):
-    """The lines of an input, and what they are to be answered. Of so many one closes the book, 0 for none."""
-    chance = random.Random(seed)
-    return more(Requests(chance, Server(), closes), chance.choice([50, 200, 500]))

@@ -21,8 +21,9 @@ import time
 
 import workers
 from copies import copied
-from model import Requests, Server, more, reading, text_of
-from stores import feed, read, ship_lines
+from kept import feed, read, ship_lines
+from model import Server, reading, text_of
+from scripts import Requests, more
 
 LATE = 20
 
