@@ -7,11 +7,14 @@ import subprocess
 
 from model import activity_text, cells, lists_text, text_of
 
+# how many seconds a run may take
+LONG = 120
+
 
 def feed(program, path, lines):
     """The status of a run over these lines, and what it wrote."""
     text = "".join(line + "\n" for line in lines).encode()
-    run = subprocess.run([program, "feed", path], input=text, stdout=subprocess.PIPE)
+    run = subprocess.run([program, "feed", path], input=text, stdout=subprocess.PIPE, timeout=LONG)
     return run.returncode, run.stdout.decode().split("\n")[:-1]
 
 
@@ -69,5 +72,5 @@ def reports_of(server):
 
 def told_by(program, name, path):
     """The status of a report, and its lines."""
-    run = subprocess.run([program, name, path], stdout=subprocess.PIPE)
+    run = subprocess.run([program, name, path], stdout=subprocess.PIPE, timeout=LONG)
     return run.returncode, run.stdout.decode().split("\n")[:-1]

@@ -12,7 +12,7 @@ import subprocess
 import tempfile
 import time
 
-from kept import feed, held, model_held, reports_of, told_by
+from kept import LONG, feed, held, model_held, reports_of, told_by
 from model import Server
 from outcomes import Failing, copied, line_of, outcomes, turn, turns_in
 from scripts import USERS, Asker
@@ -164,7 +164,7 @@ def case_of(number, life):
 def parts_of(lines, life):
     """What a case printed: the answers and the status, the cells and the generation, and the reports."""
     ends = [at for at, line in enumerate(lines) if line.startswith("status ")]
-    held_at = next(at for at, line in enumerate(lines) if line.startswith("generation "))
+    held_at = [line.split(" ")[0] for line in lines].index("generation")
     cells = {(int(line.split(" ", 2)[0]), line.split(" ", 2)[1]): line.split(" ", 2)[2] for line in lines[ends[0] + 1:held_at]}
     starts = [held_at, *ends[1:]]
     reports = {name: (int(lines[end][7:]), lines[start + 1:end]) for name, start, end in zip(life.reports, starts, ends[1:])}
@@ -175,7 +175,7 @@ def play_runs(runs, script, folder, played):
     """Plays a script by `trial_runs`, each life as a case."""
     lives = list(lives_of(script))
     cases = [line for number, life in enumerate(lives) for line in case_of(number, life)]
-    run = subprocess.run([runs], input="\n".join(["=== scripts", *cases, ""]).encode(), stdout=subprocess.PIPE, cwd=folder)
+    run = subprocess.run([runs], input="\n".join(["=== scripts", *cases, ""]).encode(), stdout=subprocess.PIPE, cwd=folder, timeout=LONG)
     told = run.stdout.decode().split("\n== life ")[1:]
     for number, life in enumerate(lives):
         if number >= len(told):
@@ -440,4 +440,8 @@ def play(program, runs, script):
         except Difference as difference:
             difference.played = played.steps
             raise
+        except (subprocess.TimeoutExpired, ValueError, LookupError) as trouble:
+            difference = Difference(len(script[1]), "what is written, and that there is an end", repr(trouble), "what can be read")
+            difference.played = played.steps
+            raise difference from trouble
     return played
