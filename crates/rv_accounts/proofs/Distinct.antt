@@ -4,12 +4,12 @@ use Rattle.std.specs.Str.{bytes_eq}
 use Rattle.std.specs.Option.{option_map}
 use Rattle.toml.specs.Data.{Data}
 use Rattle.rv_base.specs.Sorted.{Distinct}
-use Rattle.rv_base.specs.Positions.{not_same, find-push_other}
-use Rattle.rv_base.specs.Arranged.{find-sorted}
+use Rattle.rv_base.specs.PositionLaws.{not_same, find-push_other}
+use Rattle.rv_base.specs.ArrangedLaws.{find-sorted}
 use Rattle.rv_accounts.specs.declared.account.Account.{Account}
 use Rattle.rv_accounts.specs.Members.{account_in}
 use Rattle.rv_accounts.specs.File.{account_key, accounts_from, has_key}
-use Rattle.rv_accounts.specs.Laws.{AreFound}
+use Rattle.rv_accounts.specs.Properties.{AreFound}
 
 neither : (b c : Bool) → (b || c) ≡ false → (b ≡ false) × (c ≡ false)
 neither true c e = absurd (cc)

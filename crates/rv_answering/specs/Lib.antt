@@ -4,4 +4,4 @@ pub mod Steps
 pub mod Texts
 pub mod AnswerLaws
 pub mod StepLaws
-pub mod StepMaps
+pub mod StepMapLaws

@@ -1,6 +1,5 @@
 -- When a call may say that an object failed.
 use Rattle.std.specs.Prelude.{ℕ, ◌≡◌, ◌+◌, ◌-◌, ◌^◌, ◌≤◌, min, Result, OnErr, OnOk}
-use Rattle.std.proofs.Common.{arith}
 
 -- the count of faults has risen, or stands at its type's end
 abbrev pub Rose : ℕ → ℕ → Type 0
@@ -16,7 +15,3 @@ pub record HasCause {T E : Type 0} (before now : ℕ) (result : Result T E) : Ty
   pub later : before ≤ now
   pub failed : OnErr result (Rose before now)
   pub still : OnOk result (now ≡ before)
-
--- a count that rose later has risen since before
-pub rose_before : (before mid now : ℕ) → before ≤ mid → Rose mid now → Rose before now
-rose_before before mid now le r = omega (arith, r)

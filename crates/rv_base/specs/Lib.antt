@@ -1,14 +1,13 @@
 pub mod Causes
+pub mod CauseLaws
 pub mod Outside
-pub mod InMemory
-pub mod InMemoryLaws
 pub mod Writes
 pub mod WritesLaws
 pub mod Texts
 pub mod Sorted
-pub mod Positions
+pub mod PositionLaws
 pub mod RisingLaws
 pub mod Chains
 pub mod Options
 pub mod Schemas
-pub mod Arranged
+pub mod ArrangedLaws

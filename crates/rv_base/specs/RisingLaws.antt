@@ -4,8 +4,8 @@ use Rattle.std.specs.declared.cmp.Ordering.TheVariants.{Less, Equal, Greater}
 use Rattle.std.specs.Cmp.Lexicographic.{slice_cmp}
 use Rattle.std.specs.Ordering.{nat_cmp, match_ordering}
 use Rattle.std.proofs.lemmas.Bool.{and_parts}
-use Rattle.rv_base.specs.Sorted.{InOrder, is_below, rises_from, is_in_order}
-use Rattle.rv_base.specs.Positions.{Below, above_chain}
+use Rattle.rv_base.specs.Sorted.{InOrder, is_below, rises_from, is_in_order, Below}
+use Rattle.rv_base.specs.PositionLaws.{above_chain}
 
 below-is : (o : Ordering) → match_ordering o true false false ≡ true → o ≡ Less
 below-is Less e = refl

@@ -6,6 +6,10 @@ use Rattle.std.specs.Cmp.Lexicographic.{slice_cmp}
 use Rattle.std.specs.List.{filter, AllByRecursion}
 use Rattle.std.specs.Str.{bytes_eq}
 
+-- two keys, one below the other
+abbrev pub Below : List ℕ → List ℕ → Type 0
+Below a b = slice_cmp nat_cmp a b ≡ Less
+
 module _ {X : Type 0} (key : X → List ℕ) where
   -- the item that has the key
   abbrev pub find_by : List ℕ → List X → Option X

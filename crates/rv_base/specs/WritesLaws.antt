@@ -1,8 +1,29 @@
 -- Laws of texts that are written one after another.
-use Rattle.std.proofs.Common.{List, ℕ, ◌++◌, Result, Ok, Err, ◌∙◌, arith}
-use Rattle.rv_base.specs.Causes.{HasCause, Counts, rose_before}
-use Rattle.rv_base.specs.Writes.{writes_after, front_longer}
+use Rattle.std.proofs.Common.{List, ℕ, ◌++◌, Result, Ok, Err, ◌∙◌, arith, ap, sym, append_assoc, length-append}
+use Rattle.rv_base.specs.Causes.{HasCause, Counts}
+use Rattle.rv_base.specs.CauseLaws.{rose_before}
 use Rattle.rv_base.specs.Outside.{OutputState, Writes}
+use Rattle.std.specs.Prelude.{ℕ, ◌<◌, List, ◌++◌, length, Result, Ok, Err}
+use Rattle.std.specs.declared.option.Option.{Option}
+use Rattle.std.specs.Io.KnownBytes.{Appends}
+use Rattle.std.proofs.KnownBytes.{Appends-trans}
+use Rattle.rv_base.specs.Writes.{AppendsFront, WritesText}
+
+-- a front of a text is one of a longer text
+pub front_longer : (old new : Option (List ℕ)) (text more : List ℕ) → AppendsFront old new text → AppendsFront old new (text ++ more)
+front_longer old new text more (part, (rest, e, lt), a) =
+    let some : 0 < length (rest ++ more) = omega (arith, length-append rest more, lt) in
+    (part, (rest ++ more, ap (λ l. l ++ more) e ∙ append_assoc part rest more, some), a)
+
+-- a text and then a front of another
+pub front_after : (old mid new : Option (List ℕ)) (text more : List ℕ) → Appends old mid text → AppendsFront mid new more → AppendsFront old new (text ++ more)
+front_after old mid new text more a (part, (rest, e, lt), b) =
+    (text ++ part, (rest, ap (λ l. text ++ l) e ∙ sym (append_assoc text part rest), lt), Appends-trans old mid new text part a b)
+
+-- a text and then another
+pub writes_after : {T E : Type 0} (old mid new : Option (List ℕ)) (result : Result T E) (text more : List ℕ) → Appends old mid text → WritesText mid new result more → WritesText old new result (text ++ more)
+writes_after old mid new (Ok x) text more a w = Appends-trans old mid new text more a w
+writes_after old mid new (Err e) text more a w = front_after old mid new text more a w
 
 -- a call that succeeded
 abbrev done : {T E : Type 0} → T → Result T E

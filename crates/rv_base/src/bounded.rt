@@ -1,6 +1,6 @@
 ghost use Rattle.std.specs.Prelude.{◌≡◌, ℕ, ◌≤◌, length, IfOk};
 ghost use Rattle.std.specs.Cmp.Lexicographic.{slice_cmp};
-ghost use Rattle.std.specs.Str.{bytes_eq};
+ghost use Rattle.std.specs.Str.{IsUtf8, bytes_eq};
 ghost use Rattle.std.specs.Ordering.{nat_cmp, as_partial_cmp};
 ghost use Rattle.std.specs.Cmp.{partial_order_from_own_ties};
 ghost use Rattle.std.specs.Cmp.Rules.{comparing};
@@ -78,6 +78,15 @@ impl<const MIN: usize, const MAX: usize> Bounded<MIN, MAX> {
         ensures high { length self.now ≤ MAX }
     {
         self.text.as_str()
+    }
+
+    /// The text has from `MIN` to `MAX` bytes, and is UTF-8: its type has it so. It does nothing.
+    pub fn fits(&self)
+        ensures low { MIN ≤ length self.now }
+        ensures high { length self.now ≤ MAX }
+        ensures valid { IsUtf8 self.now }
+    {
+        let _bytes = self.as_str().as_bytes();
     }
 
     /// The same text, which both share. It takes no memory: the allocator is that of its signature, and what may be refused is one

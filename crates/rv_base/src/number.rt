@@ -55,4 +55,11 @@ impl Num {
     {
         self.number
     }
+
+    /// The number is below 2^53: its type has it so. It does nothing.
+    pub fn fits(self)
+        ensures { self < 2 ^ 53 }
+    {
+        let _number = self.number;
+    }
 }

@@ -26,8 +26,8 @@ pub trait Source {
         ensures steady { fails_no_more self.old → IsOk result × fails_no_more self.new };
 }
 
-// The count of the ends that were told, after a read that gave so many bytes into this piece.
-pub(crate) fn ends_after(ends: u64, count: usize, piece: &[u8]) -> u64
+/// The count of the ends that were told, after a read that gave so many bytes into this piece.
+pub fn ends_after(ends: u64, count: usize, piece: &[u8]) -> u64
     ensures { result ≡ counted_if (is_end count piece.now) ends }
 {
     if count == 0 && !piece.is_empty() {

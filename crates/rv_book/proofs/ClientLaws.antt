@@ -13,7 +13,7 @@ use Rattle.rv_book.specs.declared.entry.Entry.TheVariants.{Act, Look, Retire}
 use Rattle.rv_book.specs.declared.clients.ClientRow.{ClientRow}
 use Rattle.rv_book.specs.Entries.{is_act_of, group_of_in}
 use Rattle.rv_book.specs.Book.{Book, last, group_of, size, with_entry, empty_book}
-use Rattle.rv_book.specs.BookWords.{bytes_eq_back, at_before, at_end, last-with_entry}
+use Rattle.rv_book.specs.BookWordLaws.{bytes_eq_back, at_before, at_end, last-with_entry}
 use Rattle.rv_book.specs.Indexes.{acting, first_where, actor, client_of_row, row_from, client_row, AreClientRows, acted_in, LastsFit}
 use Rattle.rv_book.proofs.IndexLaws.{index-same, index-again, index-first, Changes}
 use Rattle.rv_book.proofs.BookLaws.{read_later, first-push}

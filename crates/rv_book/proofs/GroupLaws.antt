@@ -13,9 +13,9 @@ use Rattle.rv_book.specs.declared.entry.Entry.TheVariants.{Act, Look, Retire}
 use Rattle.rv_book.specs.declared.groups.GroupRow.{GroupRow}
 use Rattle.rv_book.specs.Entries.{order_after, retires, bound_in, retired_in}
 use Rattle.rv_book.specs.Book.{Book, bound, last_order, page_group, retired, size, with_entry, empty_book}
-use Rattle.rv_book.specs.BookWords.{bytes_eq_back, count-push, at_before, at_end, last_order-with_entry, retired-with_entry}
+use Rattle.rv_book.specs.BookWordLaws.{bytes_eq_back, count-push, at_before, at_end, last_order-with_entry, retired-with_entry}
 use Rattle.rv_book.specs.Kept.{is_look_of, last_look}
-use Rattle.rv_book.specs.LookWalks.{last_look-with_entry, no_look}
+use Rattle.rv_book.specs.LookWalkLaws.{last_look-with_entry, no_look}
 use Rattle.rv_book.specs.Indexes.{first_where, named_in, naming, names_group, binds, user_of, group_of_row, group_row, new_row, row_after, AreGroupRows}
 use Rattle.rv_book.proofs.IndexLaws.{index-again, index-first, Changes}
 use Rattle.rv_book.proofs.BookLaws.{read_later, first-push, none_counted, none_later}

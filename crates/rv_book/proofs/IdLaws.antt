@@ -8,8 +8,8 @@ use Rattle.std.proofs.lemmas.List.Elements.{filter_map-append}
 use Rattle.std.proofs.lemmas.Option.{none-some, same_Some}
 use Rattle.std.proofs.lemmas.Slice.Eq.{bytes_eq-Decides}
 use Rattle.rv_base.specs.Sorted.{find_by, put_by, InOrder}
-use Rattle.rv_base.specs.Positions.{Above, equals, differs_back, in_order-sorted, in_order-filter, found-sorted, all-put}
-use Rattle.rv_base.specs.Arranged.{in_order-same, find-map}
+use Rattle.rv_base.specs.PositionLaws.{Above, equals, differs_back, in_order-sorted, in_order-filter, found-sorted, all-put}
+use Rattle.rv_base.specs.ArrangedLaws.{in_order-same, find-map}
 use Rattle.rv_book.specs.declared.entry.Entry.{Entry}
 use Rattle.rv_book.specs.declared.entry.Entry.TheVariants.{Act, Look, Retire}
 use Rattle.rv_book.specs.declared.clients.ClientRow.{ClientRow}
@@ -17,7 +17,7 @@ use Rattle.rv_book.specs.Entries.{is_act_of}
 use Rattle.rv_book.specs.Book.{Book, last, group_of, acting_client, belongs, client_in, clients_named, ids}
 use Rattle.rv_book.specs.Indexes.{acting, first_where, actor, client_of_row, row_from, client_row}
 use Rattle.rv_book.specs.Members.{member_key, client_of_key, group_of_member, key_of_member, is_member, info_by, row_with_key, member_row, AreMemberRows}
-use Rattle.rv_book.specs.BookWords.{bytes_eq_back}
+use Rattle.rv_book.specs.BookWordLaws.{bytes_eq_back}
 use Rattle.rv_book.specs.RegisterLaws.{client_is_named}
 use Rattle.rv_book.proofs.IndexLaws.{found_key, found_all}
 use Rattle.rv_book.proofs.ClientLaws.{act_is, no_group}

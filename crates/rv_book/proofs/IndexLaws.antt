@@ -9,8 +9,8 @@ use Rattle.std.specs.List.Sorted.{IsBinarySearchResult, IsSearchInRange}
 use Rattle.std.proofs.lemmas.Cmp.{nat_list_cmp_total, tied_itself}
 use Rattle.std.proofs.lemmas.Slice.Eq.{bytes_eq-Decides}
 use Rattle.std.proofs.lemmas.Option.{none-some, same_Some}
-use Rattle.rv_base.specs.Sorted.{find_by, put_by, InOrder, IsPositionOf}
-use Rattle.rv_base.specs.Positions.{Below, Above, equals, not_same, in_order-put, find_put, all-put, settles}
+use Rattle.rv_base.specs.Sorted.{find_by, put_by, InOrder, IsPositionOf, Below}
+use Rattle.rv_base.specs.PositionLaws.{Above, in_order-put, find_put, all-put, settles}
 use Rattle.rv_book.specs.Indexes.{IsIndex, StandsAt}
 
 module _ {X : Type 0} (key other : X → List ℕ) where

@@ -73,13 +73,13 @@ named-at client book rows at h found =
     ∙ row_info client book (get_or rows at no_row) (sym (h.found client) ∙ found.found no_row)
 
 -- what an item tells of the client of a name, where there is one: the name, the client's group and its last mutation id
-pub record TellsClient {X : Type 0} (tell : X → Client) (client : List ℕ) (book : Book) (told : Option X) : Type 0 where
-  pub name : IfSome told (λ x. (tell x).0 ≡ client)
-  pub group : option_map (λ x. (tell x).1) told ≡ group_of client book
-  pub acts : option_map_or (λ x. (tell x).2) told 0 ≡ last client book
-  pub bound : LastsFit book.page → IfSome told (λ x. (tell x).2 ≤ size book)
+pub record TellsClient {X : Type 0} (tell : X → Client) (client : List ℕ) (book : Book) (info : Option X) : Type 0 where
+  pub name : IfSome info (λ x. (tell x).0 ≡ client)
+  pub group : option_map (λ x. (tell x).1) info ≡ group_of client book
+  pub acts : option_map_or (λ x. (tell x).2) info 0 ≡ last client book
+  pub bound : LastsFit book.page → IfSome info (λ x. (tell x).2 ≤ size book)
 
-pub tells_client : {X : Type 0} (tell : X → Client) (client : List ℕ) (book : Book) (told : Option X) → option_map tell told ≡ client_named client book → TellsClient tell client book told
+pub tells_client : {X : Type 0} (tell : X → Client) (client : List ℕ) (book : Book) (info : Option X) → option_map tell info ≡ client_named client book → TellsClient tell client book info
 tells_client tell client book None is =
     let without : group_of client book ≡ None = without_group (group_of client book) is in
     record { name = tt; group = sym without; acts = sym (no_acts client book without); bound = λ fit. tt }
@@ -101,7 +101,7 @@ tells_client tell client book (Some x) is =
     ] refl is
 
 -- an item that tells of the client at an index, and tells the index
-pub told_where : {X : Type 0} (tell : X → Client) (place : X → ℕ) (clients : List Client) (at : ℕ) (told : Option X) → option_map tell told ≡ slice_get clients at → IfSome told (λ x. place x ≡ at) → IfSome told (λ x. slice_get clients (place x) ≡ Some (tell x))
+pub told_where : {X : Type 0} (tell : X → Client) (place : X → ℕ) (clients : List Client) (at : ℕ) (info : Option X) → option_map tell info ≡ slice_get clients at → IfSome info (λ x. place x ≡ at) → IfSome info (λ x. slice_get clients (place x) ≡ Some (tell x))
 told_where tell place clients at None is there = tt
 told_where tell place clients at (Some x) is there = ap (slice_get clients) there ∙ sym is
 

@@ -6,10 +6,10 @@ use Rattle.std.proofs.lemmas.List.Sums.{sum_by-append}
 use Rattle.std.proofs.lemmas.Option.{none-some}
 use Rattle.rv_book.specs.declared.entry.Entry.{Entry}
 use Rattle.rv_book.specs.Book.{Book, retired, up_to, since}
-use Rattle.rv_book.specs.BookWords.{up_to-since}
+use Rattle.rv_book.specs.BookWordLaws.{up_to-since}
 use Rattle.rv_book.specs.Kept.{is_look_of, last_look, look_before, falls_out}
 use Rattle.rv_book.specs.LookLaws.{IsLookOf, count_from, falls_out-some, falls_out-none}
-use Rattle.rv_book.specs.LookWalks.{last_look-some, last_look-none, look_before-some, look_before-none}
+use Rattle.rv_book.specs.LookWalkLaws.{last_look-some, last_look-none, look_before-some, look_before-none}
 
 unfoldable pub looks_back : ℕ → List ℕ → Book → Option ℕ
 looks_back zero group book = last_look group book

@@ -6,7 +6,7 @@ use Rattle.std.specs.Str.{bytes_eq}
 use Rattle.std.proofs.lemmas.List.{length_push, take-append-le, take_all}
 use Rattle.std.proofs.lemmas.List.Sums.{sum_by-take-drop}
 use Rattle.std.proofs.lemmas.Option.{get_or_from_slice_get, slice_get_within}
-use Rattle.rv_base.specs.Positions.{equals}
+use Rattle.rv_base.specs.PositionLaws.{equals}
 use Rattle.rv_book.specs.declared.entry.Entry.{Entry}
 use Rattle.rv_book.specs.declared.entry.Entry.TheVariants.{Look}
 use Rattle.rv_book.specs.declared.clients.ClientRow.{ClientRow}
@@ -14,10 +14,10 @@ use Rattle.rv_book.specs.declared.groups.GroupRow.{GroupRow}
 use Rattle.rv_book.specs.declared.look.LookRow.{LookRow}
 use Rattle.rv_book.specs.declared.page.Page.{Page}
 use Rattle.rv_book.specs.Book.{Book, book_from, entry_at, retired, size, with_entry, up_to}
-use Rattle.rv_book.specs.BookWords.{count-push, at_before, at_end, size-with_entry, entry_at-index, entry_at-page, entry_at-past}
+use Rattle.rv_book.specs.BookWordLaws.{count-push, at_before, at_end, size-with_entry, entry_at-index, entry_at-page, entry_at-past}
 use Rattle.rv_book.specs.Kept.{look_of, look_at, is_look_of, later_looks, kept, last_look, look_before}
 use Rattle.rv_book.specs.LookLaws.{look_at-within, kept-look}
-use Rattle.rv_book.specs.LookWalks.{look_before-with_entry, look_before-end}
+use Rattle.rv_book.specs.LookWalkLaws.{look_before-with_entry, look_before-end}
 use Rattle.rv_book.specs.Indexes.{number_at, look_row_at, AreLookRows, AreGroupRows, AreClientRows, LastsFit}
 use Rattle.rv_book.specs.Members.{AreMemberRows}
 use Rattle.rv_book.specs.Indexed.{IsIndexed}

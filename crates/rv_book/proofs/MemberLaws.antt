@@ -6,7 +6,7 @@ use Rattle.std.specs.Str.{bytes_eq}
 use Rattle.std.proofs.lemmas.Slice.Eq.{bytes_eq-Decides}
 use Rattle.std.proofs.lemmas.Option.{none-some, same_Some}
 use Rattle.rv_base.specs.Sorted.{IsPositionOf}
-use Rattle.rv_base.specs.Positions.{equals}
+use Rattle.rv_base.specs.PositionLaws.{equals}
 use Rattle.rv_book.specs.declared.entry.Entry.{Entry}
 use Rattle.rv_book.specs.declared.clients.ClientRow.{ClientRow}
 use Rattle.rv_book.specs.Entries.{is_act_of}

@@ -9,7 +9,7 @@ use Rattle.rv_book.specs.declared.page.Page.{Page}
 use Rattle.rv_book.specs.Entries.{bound_in, group_of_in, last_in, retired_in, is_act_of}
 use Rattle.rv_book.specs.Book.{Book, bound, group_of, last, page_client, page_group, with_entry}
 use Rattle.rv_book.specs.Indexes.{acting, first_where, naming, names_group, page_act, page_look, LastsFit}
-use Rattle.rv_book.specs.BookWords.{bytes_eq_back}
+use Rattle.rv_book.specs.BookWordLaws.{bytes_eq_back}
 use Rattle.rv_book.proofs.BookLaws.{none_counted, none_later}
 
 abbrev Client : Type 0

@@ -6,15 +6,15 @@ use Rattle.std.specs.Str.{bytes_eq}
 use Rattle.std.proofs.Math.Bool.{or-false}
 use Rattle.std.proofs.lemmas.List.{length_push, length-take-le, take_more}
 use Rattle.std.proofs.lemmas.Option.{slice_get_within}
-use Rattle.rv_base.specs.Sorted.{find_by, InOrder}
-use Rattle.rv_base.specs.Positions.{Above, Below}
+use Rattle.rv_base.specs.Sorted.{find_by, InOrder, Below}
+use Rattle.rv_base.specs.PositionLaws.{Above}
 use Rattle.rv_book.specs.declared.entry.Entry.{Entry}
 use Rattle.rv_book.specs.declared.clients.ClientRow.{ClientRow}
 use Rattle.rv_book.specs.declared.groups.GroupRow.{GroupRow}
 use Rattle.rv_book.specs.declared.page.Page.{Page}
 use Rattle.rv_book.specs.Entries.{is_act_of}
 use Rattle.rv_book.specs.Book.{book_from, last, last_order, page_client, page_group}
-use Rattle.rv_book.specs.BookWords.{bytes_eq_back}
+use Rattle.rv_book.specs.BookWordLaws.{bytes_eq_back}
 use Rattle.rv_book.specs.Kept.{last_look}
 use Rattle.rv_book.specs.Indexes.{acting, actor, first_where, naming, named_in, names_group, binds, page_act, page_look, client_of_row, client_row, AreClientRows, group_of_row, group_row, AreGroupRows, IsIndex}
 use Rattle.rv_book.proofs.GroupLaws.{group_row_at}

@@ -12,9 +12,9 @@ use Rattle.std.proofs.lemmas.List.Sorted.{All-permutation, sum_by-IsPermutation,
 use Rattle.std.proofs.lemmas.List.Sums.{sum_by-cons}
 use Rattle.std.proofs.lemmas.Option.{none-some}
 use Rattle.std.proofs.lemmas.Slice.Eq.{bytes_eq-Decides}
-use Rattle.rv_base.specs.Sorted.{find_by, InOrder, Distinct}
-use Rattle.rv_base.specs.Positions.{Below, below_is, same_from, equals, above_chain, found-any, none_found, others}
-use Rattle.rv_book.specs.BookWords.{bytes_eq_back}
+use Rattle.rv_base.specs.Sorted.{find_by, InOrder, Distinct, Below}
+use Rattle.rv_base.specs.PositionLaws.{below_is, same_from, equals, above_chain, found-any, none_found, others}
+use Rattle.rv_book.specs.BookWordLaws.{bytes_eq_back}
 use Rattle.rv_book.proofs.IndexLaws.{found_key, found_all}
 
 pub all-permuted : {X : Type 0} (P : X → Type 0) (xs ys : List X) → IsPermutation xs ys → AllByRecursion P xs → AllByRecursion P ys

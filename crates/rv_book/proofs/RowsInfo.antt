@@ -3,9 +3,9 @@ use Rattle.std.proofs.Common.{◌≡◌, ℕ, zero, suc, true, false, cond, List
 use Rattle.std.specs.List.{slice_get, filter_map, cons_option, AllByRecursion}
 use Rattle.std.specs.Option.{option_and_then}
 use Rattle.std.specs.Str.{bytes_eq}
-use Rattle.rv_base.specs.Sorted.{find_by, InOrder}
-use Rattle.rv_base.specs.Positions.{Above, Below}
-use Rattle.rv_base.specs.Arranged.{in_order-same}
+use Rattle.rv_base.specs.Sorted.{find_by, InOrder, Below}
+use Rattle.rv_base.specs.PositionLaws.{Above}
+use Rattle.rv_base.specs.ArrangedLaws.{in_order-same}
 use Rattle.rv_book.specs.Indexes.{IsIndex}
 use Rattle.rv_book.proofs.IdLaws.{finds_itself, all_weaker}
 

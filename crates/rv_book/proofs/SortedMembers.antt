@@ -8,8 +8,8 @@ use Rattle.std.specs.Option.{option_map_or, option_and_then}
 use Rattle.std.specs.Str.{bytes_eq}
 use Rattle.std.proofs.lemmas.Slice.Eq.{bytes_eq-Decides}
 use Rattle.rv_base.specs.Sorted.{find_by, Distinct}
-use Rattle.rv_base.specs.Positions.{equals}
-use Rattle.rv_base.specs.Arranged.{distinct-in_order}
+use Rattle.rv_base.specs.PositionLaws.{equals}
+use Rattle.rv_base.specs.ArrangedLaws.{distinct-in_order}
 use Rattle.rv_book.specs.declared.entry.Entry.{Entry}
 use Rattle.rv_book.specs.declared.entry.Entry.TheVariants.{Act, Look, Retire}
 use Rattle.rv_book.specs.declared.clients.ClientRow.{ClientRow}

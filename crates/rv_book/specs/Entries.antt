@@ -1,5 +1,5 @@
 -- Lists of entries, and what is looked up in them.
-use Rattle.std.specs.Prelude.{ℕ, List, [], ◌∷◌, Bool, false, Option, Some, None, fold, count_by, if◌then◌else◌}
+use Rattle.std.specs.Prelude.{ℕ, List, [], ◌∷◌, Bool, false, Option, Some, None, count_by, if◌then◌else◌}
 use Rattle.std.specs.List.{list_any}
 use Rattle.std.specs.Str.{bytes_eq}
 use Rattle.rv_book.specs.declared.entry.Entry.{Entry}
@@ -42,7 +42,3 @@ abbrev pub order_after : List ℕ → ℕ → Entry → ℕ
 order_after group before (Act user other client id call) = before
 order_after group before (Look user other order base) = if bytes_eq other group then order else before
 order_after group before (Retire other) = before
-
--- the order of the group's last look, or 0
-abbrev pub last_order_in : List ℕ → List Entry → ℕ
-last_order_in group entries = fold (order_after group) 0 entries

@@ -126,7 +126,14 @@ group_of_row book row = option_map_or named_in (slice_get (naming book) row.name
 
 -- the row of a group, where the page or an entry names it
 unfoldable pub group_row : Book → List ℕ → Option GroupRow
-group_row book group = option_map (λ index. record { named = index; bound = first_where (binds group) (naming book); order = last_order group book; looks = count_by (is_look_of group) book.entries; last_look = last_look group book; retired = retired group book }) (first_where (names_group group) (naming book))
+group_row book group = option_map (λ index. record {
+  named = index;
+  bound = first_where (binds group) (naming book);
+  order = last_order group book;
+  looks = count_by (is_look_of group) book.entries;
+  last_look = last_look group book;
+  retired = retired group book;
+}) (first_where (names_group group) (naming book))
 
 -- the row of a group before the first entry that names it
 abbrev pub new_row : ℕ → GroupRow

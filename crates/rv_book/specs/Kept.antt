@@ -1,5 +1,5 @@
 -- Looks, and which of them are kept: a cookie that names a kept look has a base.
-use Rattle.std.specs.Prelude.{ℕ, suc, ◌+◌, ◌-◌, List, [], ◌∷◌, Bool, false, Option, Some, None, ◌&&◌, not, nat_lt, count_by, option_map, option_and_then, find, if◌then◌else◌}
+use Rattle.std.specs.Prelude.{ℕ, suc, ◌+◌, ◌-◌, ◌==◌, List, [], ◌∷◌, Bool, false, Option, Some, None, ◌&&◌, not, nat_lt, count_by, option_map, option_and_then, find, if◌then◌else◌}
 use Rattle.std.specs.List.{range_with_len}
 use Rattle.std.specs.Option.{option_map_or, option_or}
 use Rattle.std.specs.Str.{bytes_eq}
@@ -46,6 +46,10 @@ last_look group book = option_map (λ index. book.page.at + (index + 1)) (last_w
 -- of the look at a place: the place of its group's look before it
 unfoldable pub look_before : ℕ → Book → Option ℕ
 look_before place book = option_and_then (λ look. last_look look.1 (up_to (place - 1) book)) (look_at place book)
+
+-- what was found is this place
+abbrev pub is_place : ℕ → Option ℕ → Bool
+is_place place found = option_map_or (λ other. other == place) found false
 
 -- The look at a place is of the group and kept, and would not be kept any more if one more look of the group stood at the end
 -- of the book, whoever pulls and whatever it is answered.

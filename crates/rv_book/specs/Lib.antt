@@ -1,9 +1,9 @@
 pub mod Entries
 pub mod Book
-pub mod BookWords
+pub mod BookWordLaws
 pub mod Kept
 pub mod LookLaws
-pub mod LookWalks
+pub mod LookWalkLaws
 pub mod Recorded
 pub mod Logs
 pub mod Indexes

@@ -10,13 +10,13 @@ use Rattle.std.proofs.lemmas.List.{drop-drop, take-append-drop}
 use Rattle.std.proofs.lemmas.List.Sums.{sum_by-append}
 use Rattle.std.proofs.lemmas.Option.{same_Some}
 use Rattle.std.proofs.lemmas.Slice.Eq.{bytes_eq-Decides}
-use Rattle.rv_base.specs.Positions.{equals, not_same}
+use Rattle.rv_base.specs.PositionLaws.{equals, not_same}
 use Rattle.rv_book.specs.declared.entry.Entry.{Entry}
 use Rattle.rv_book.specs.declared.entry.Entry.TheVariants.{Act, Look, Retire}
 use Rattle.rv_book.specs.Entries.{retires}
 use Rattle.rv_book.specs.Book.{Book, size, since, with_entry, entry_at, retired}
-use Rattle.rv_book.specs.BookWords.{retired-with_entry, count-push, since-with_entry, entry_at-within, entry_at-with_entry, entry_at-end, since-entry}
-use Rattle.rv_book.specs.Kept.{look_of, look_at, is_look_of, is_look_at, later_looks, kept, falls_at, falls_out}
+use Rattle.rv_book.specs.BookWordLaws.{retired-with_entry, count-push, since-with_entry, entry_at-within, entry_at-with_entry, entry_at-end, since-entry}
+use Rattle.rv_book.specs.Kept.{look_of, look_at, is_look_of, is_look_at, later_looks, kept, falls_at, falls_out, is_place}
 
 -- the entry of a look
 some_entry : (o : Option Entry) (look : List ℕ × List ℕ × ℕ) → option_and_then look_of o ≡ Some look → (entry : Entry) × (o ≡ Some entry) × (look_of entry ≡ Some look)
@@ -215,10 +215,6 @@ falls_out-none group book none = nowhere group book (λ place is. none place (fa
 
 pub falls_out-retired : (group : List ℕ) (book : Book) → retired group book ≡ true → falls_out group book ≡ None
 falls_out-retired group book gone = nowhere group book (λ place is. let both : true ≡ false = sym gone ∙ (falls_from group book place is).1 in cc)
-
--- the place that was found is this one
-abbrev pub is_place : ℕ → Option ℕ → Bool
-is_place place found = option_map_or (λ other. other == place) found false
 
 falls_here : (group : List ℕ) (book : Book) (place : ℕ) → is_place place (falls_out group book) ≡ falls_at group book place
 unfolding falls_out

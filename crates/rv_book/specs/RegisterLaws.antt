@@ -8,15 +8,15 @@ use Rattle.std.proofs.lemmas.List.Folds.{list_any-append}
 use Rattle.std.proofs.lemmas.Option.{same_Some}
 use Rattle.std.proofs.lemmas.Slice.Eq.{bytes_eq-Decides}
 use Rattle.rv_base.specs.Sorted.{find_by, put_by, InOrder, sorted_by}
-use Rattle.rv_base.specs.Positions.{equals, not_same, find_put, in_order-put, in_order-sorted}
-use Rattle.rv_base.specs.Arranged.{in_order-same}
+use Rattle.rv_base.specs.PositionLaws.{equals, not_same, find_put, in_order-put, in_order-sorted}
+use Rattle.rv_base.specs.ArrangedLaws.{in_order-same}
 use Rattle.rv_rows.specs.declared.call.Call.{Call}
 use Rattle.rv_book.specs.declared.entry.Entry.{Entry}
 use Rattle.rv_book.specs.declared.entry.Entry.TheVariants.{Act, Look, Retire}
 use Rattle.rv_book.specs.Entries.{is_act_of, order_after, retires, bound_in, group_of_in}
 use Rattle.rv_book.specs.declared.page.Page.{Page}
 use Rattle.rv_book.specs.Book.{Book, book_from, with_entry, acting_client, bound, clients_named, group_of, last, last_order, page_client, page_group, retired}
-use Rattle.rv_book.specs.BookWords.{bytes_eq_back, last-with_entry, last_order-with_entry, retired-with_entry}
+use Rattle.rv_book.specs.BookWordLaws.{bytes_eq_back, last-with_entry, last_order-with_entry, retired-with_entry}
 use Rattle.rv_book.specs.Indexes.{binds, named_in, names_group, user_of}
 use Rattle.rv_book.specs.Members.{acting_group}
 use Rattle.rv_book.specs.Registers.{binding_group, client_named, clients_of, group_named, groups_named, groups_of, RetiresBound}

@@ -2,7 +2,7 @@ ghost use Rattle.std.specs.Prelude.{◌≡◌, ◌≤◌, ◌<◌, ◌+◌, ◌^
 ghost use Rattle.std.specs.Option.{option_map_or};
 ghost use Rattle.rv_base.specs.Sorted.{InOrder};
 ghost use Rattle.rv_book.specs.Book.{book_from, bound, empty_book, entry_at, group_of, ids, last, last_order, retired, size, with_entry};
-ghost use Rattle.rv_book.specs.Kept.{falls_out, kept, last_look, look_at, look_before};
+ghost use Rattle.rv_book.specs.Kept.{falls_out, kept, last_look, look_at};
 ghost use Rattle.rv_book.specs.Logs.{logged};
 ghost use Rattle.rv_book.specs.Registers.{clients_of, groups_of, RetiresBound};
 ghost use Rattle.rv_book.specs.SoundPages.{IsSoundPage};
@@ -22,6 +22,9 @@ use rv_base::{Id, Memory, Num, Sequence, User};
 use rv_rows::Clients;
 use std::alloc::Global;
 use std::marker::Model;
+
+/// The greatest length that a book may have: places are numbers below 2^32.
+pub const BOOK_LIMIT: u32 = 4_294_967_295;
 
 /// A book: its opening page, if it has one, and its entries in order, up to a place at most.
 #[derive(Debug, Drop)]
@@ -103,14 +106,21 @@ impl Book {
         }
     }
 
+    /// The book is within its limit, which is below 2^32: the type has it so. It does nothing.
+    pub fn fits(&self)
+        ensures bound { size self.now.book ≤ self.now.limit }
+        ensures range { self.now.limit < 2 ^ 32 }
+    {
+        let _limit = self.limit;
+    }
+
     /// How long the book is: the place of its last entry, or of its page.
     pub fn len(&self) -> u32
         ensures value { result ≡ size self.now.book }
         ensures bound { size self.now.book ≤ self.now.limit }
         ensures range { self.now.limit < 2 ^ 32 }
     {
-        // The limit is read so that its type's bound, which the length has by the invariant, is known here.
-        let _limit = self.limit;
+        self.fits();
         self.log().len()
     }
 
@@ -167,7 +177,7 @@ impl Book {
         ensures { option_map (λ group. group.now) result ≡ group_of client.now self.now.book }
     {
         match self.client(client) {
-            Some(told) => Some(told.group),
+            Some(info) => Some(info.group),
             None => None,
         }
     }
@@ -178,7 +188,7 @@ impl Book {
         ensures bound { result ≤ size self.now.book }
     {
         match self.client(client) {
-            Some(told) => told.last,
+            Some(info) => info.last,
             None => Num::from_u64(0),
         }
     }
@@ -218,11 +228,11 @@ impl Book {
     /// All that the book says of a client for a mutation, found by one search. Of a client that neither the page nor an act names
     /// there is nothing to tell: it has no group, and its last mutation id is 0.
     pub fn client(&self, client: &Id) -> Option<ClientRef<'_>>
-        ensures name { IfSome result (λ told. told.client.now ≡ client.now) }
-        ensures group { option_map (λ told. told.group.now) result ≡ group_of client.now self.now.book }
-        ensures last { option_map_or (λ told. told.last) result 0 ≡ last client.now self.now.book }
-        ensures bound { IfSome result (λ told. told.last ≤ size self.now.book) }
-        ensures at { IfSome result (λ told. slice_get (clients_of self.now.book) told.at ≡ Some (told.client.now, told.group.now, told.last)) }
+        ensures name { IfSome result (λ info. info.client.now ≡ client.now) }
+        ensures group { option_map (λ info. info.group.now) result ≡ group_of client.now self.now.book }
+        ensures last { option_map_or (λ info. info.last) result 0 ≡ last client.now self.now.book }
+        ensures bound { IfSome result (λ info. info.last ≤ size self.now.book) }
+        ensures at { IfSome result (λ info. slice_get (clients_of self.now.book) info.at ≡ Some (info.client.now, info.group.now, info.last)) }
     {
         clients::info(self.log(), &self.clients, client)
     }
@@ -237,8 +247,8 @@ impl Book {
     /// The client at an index, from 0, of the clients that the page or an act names, in the order of their bytes; `None` from
     /// their number on. It takes no memory, and the time of one look-up by index, however long the book is.
     pub fn client_at(&self, index: usize) -> Option<ClientRef<'_>>
-        ensures told { option_map (λ told. (told.client.now, told.group.now, told.last)) result ≡ slice_get (clients_of self.now.book) index }
-        ensures at { IfSome result (λ told. told.at ≡ index) }
+        ensures info { option_map (λ info. (info.client.now, info.group.now, info.last)) result ≡ slice_get (clients_of self.now.book) index }
+        ensures at { IfSome result (λ info. info.at ≡ index) }
     {
         clients::info_at(self.log(), &self.clients, index)
     }
@@ -301,13 +311,6 @@ impl Book {
         ensures { result ≡ last_look group.now self.now.book }
     {
         groups::row(self.log(), &self.groups, group).last_look
-    }
-
-    /// Of the look at a place: the place of its group's look before it.
-    pub fn look_before(&self, place: u32) -> Option<u32>
-        ensures { result ≡ look_before place self.now.book }
-    {
-        look::before(self.log(), &self.look_rows, place)
     }
 
     /// The place of the look that falls out with a group's next look: it is of the group and kept, and would not be kept any

@@ -64,7 +64,7 @@ pub(crate) fn key<'b>(log: Log<'b>, row: &ClientRow) -> &'b str
 }
 
 // Where the row of a client stands, or where it would go.
-fn place(log: Log<'_>, rows: &[ClientRow], client: &Id) -> Result<usize, usize>
+fn position(log: Log<'_>, rows: &[ClientRow], client: &Id) -> Result<usize, usize>
     requires { AreClientRows (logged log) rows.now }
     ensures now { IsPositionOf (client_of_row (logged log.entry)) client.now rows.now result }
     ensures next { (entry : Entry) → IsPositionOf (client_of_row (with_entry (logged log.entry) entry)) client.now rows.now result }
@@ -83,7 +83,7 @@ fn stands_at(log: Log<'_>, rows: &[ClientRow], client: &Id, at: usize) -> bool
 }
 
 // Where the row of a client stands, or where it would go. It is looked for at an index, and searched for where it is not there.
-fn place_from(log: Log<'_>, rows: &[ClientRow], client: &Id, at: usize) -> Result<usize, usize>
+fn position_from(log: Log<'_>, rows: &[ClientRow], client: &Id, at: usize) -> Result<usize, usize>
     requires { AreClientRows (logged log) rows.now }
     ensures now { IsPositionOf (client_of_row (logged log.entry)) client.now rows.now result }
     ensures next { (entry : Entry) → IsPositionOf (client_of_row (with_entry (logged log.entry) entry)) client.now rows.now result }
@@ -91,14 +91,14 @@ fn place_from(log: Log<'_>, rows: &[ClientRow], client: &Id, at: usize) -> Resul
     if stands_at(log, rows, client, at) {
         Ok(at)
     } else {
-        place(log, rows, client)
+        position(log, rows, client)
     }
 }
 
 // What the row at an index says of its client, by what it names.
 fn info_by<'b>(log: Log<'b>, row: &ClientRow, at: usize) -> Option<ClientRef<'b>>
-    ensures told { option_map (λ told. (told.client.now, told.group.now, told.last)) result ≡ info_by_client (logged log.entry) row.now }
-    ensures at { IfSome result (λ told. told.at ≡ at) }
+    ensures info { option_map (λ info. (info.client.now, info.group.now, info.last)) result ≡ info_by_client (logged log.entry) row.now }
+    ensures at { IfSome result (λ info. info.at ≡ at) }
 {
     let (client, group) = log.acting_at(row.first)?;
     Some(ClientRef {
@@ -112,8 +112,8 @@ fn info_by<'b>(log: Log<'b>, row: &ClientRow, at: usize) -> Option<ClientRef<'b>
 // The client at an index, from 0, of those that the page or an act names, in the order of their bytes.
 pub(crate) fn info_at<'b>(log: Log<'b>, rows: &[ClientRow], at: usize) -> Option<ClientRef<'b>>
     requires { AreClientRows (logged log) rows.now }
-    ensures told { option_map (λ told. (told.client.now, told.group.now, told.last)) result ≡ slice_get (clients_of (logged log.entry)) at }
-    ensures at { IfSome result (λ told. told.at ≡ at) }
+    ensures info { option_map (λ info. (info.client.now, info.group.now, info.last)) result ≡ slice_get (clients_of (logged log.entry)) at }
+    ensures at { IfSome result (λ info. info.at ≡ at) }
 {
     info_by(log, rows.get(at)?, at)
 }
@@ -122,13 +122,13 @@ pub(crate) fn info_at<'b>(log: Log<'b>, rows: &[ClientRow], at: usize) -> Option
 pub(crate) fn info<'b>(log: Log<'b>, rows: &[ClientRow], client: &Id) -> Option<ClientRef<'b>>
     requires lasts { LastsFit log.page.now }
     requires rows { AreClientRows (logged log) rows.now }
-    ensures name { IfSome result (λ told. told.client.now ≡ client.now) }
-    ensures group { option_map (λ told. told.group.now) result ≡ group_of client.now (logged log.entry) }
-    ensures last { option_map_or (λ told. told.last) result 0 ≡ last client.now (logged log.entry) }
-    ensures bound { IfSome result (λ told. told.last ≤ size (logged log.entry)) }
-    ensures at { IfSome result (λ told. slice_get (clients_of (logged log.entry)) told.at ≡ Some (told.client.now, told.group.now, told.last)) }
+    ensures name { IfSome result (λ info. info.client.now ≡ client.now) }
+    ensures group { option_map (λ info. info.group.now) result ≡ group_of client.now (logged log.entry) }
+    ensures last { option_map_or (λ info. info.last) result 0 ≡ last client.now (logged log.entry) }
+    ensures bound { IfSome result (λ info. info.last ≤ size (logged log.entry)) }
+    ensures at { IfSome result (λ info. slice_get (clients_of (logged log.entry)) info.at ≡ Some (info.client.now, info.group.now, info.last)) }
 {
-    match place(log, rows, client) {
+    match position(log, rows, client) {
         Ok(at) => info_at(log, rows, at),
         Err(_) => None,
     }
@@ -153,7 +153,7 @@ fn enter_act<'b>(log: Log<'b>, rows: &mut Vec<ClientRow>, client: &Id, at: usize
     ensures spare { vec_capacity rows.old - vec_len rows.old ≤ (vec_capacity rows.new - vec_len rows.new) + 1 }
     ensures group { option_map (λ group. group.now) result ≡ group_of client.now (logged log.entry) }
 {
-    match place_from(log, rows, client, at) {
+    match position_from(log, rows, client, at) {
         Ok(at) => {
             let row = &mut rows[at];
             row.acts += 1;

@@ -122,7 +122,7 @@ fn key<'b>(log: Log<'b>, row: &GroupRow) -> &'b str
 }
 
 // Where the row of a group stands, or where it would go.
-fn place(log: Log<'_>, rows: &[GroupRow], group: &Id) -> Result<usize, usize>
+fn position(log: Log<'_>, rows: &[GroupRow], group: &Id) -> Result<usize, usize>
     requires { AreGroupRows (logged log) rows.now }
     ensures now { IsPositionOf (group_of_row (logged log.entry)) group.now rows.now result }
     ensures next { (entry : Entry) → IsPositionOf (group_of_row (with_entry (logged log.entry) entry)) group.now rows.now result }
@@ -141,7 +141,7 @@ fn stands_at(log: Log<'_>, rows: &[GroupRow], group: &Id, at: usize) -> bool
 }
 
 // Where the row of a group stands, or where it would go. It is looked for at an index, and searched for where it is not there.
-fn place_from(log: Log<'_>, rows: &[GroupRow], group: &Id, at: usize) -> Result<usize, usize>
+fn position_from(log: Log<'_>, rows: &[GroupRow], group: &Id, at: usize) -> Result<usize, usize>
     requires { AreGroupRows (logged log) rows.now }
     ensures now { IsPositionOf (group_of_row (logged log.entry)) group.now rows.now result }
     ensures next { (entry : Entry) → IsPositionOf (group_of_row (with_entry (logged log.entry) entry)) group.now rows.now result }
@@ -149,7 +149,7 @@ fn place_from(log: Log<'_>, rows: &[GroupRow], group: &Id, at: usize) -> Result<
     if stands_at(log, rows, group, at) {
         Ok(at)
     } else {
-        place(log, rows, group)
+        position(log, rows, group)
     }
 }
 
@@ -158,7 +158,7 @@ fn find_from(log: Log<'_>, rows: &[GroupRow], group: &Id, at: usize) -> Option<G
     requires { AreGroupRows (logged log) rows.now }
     ensures { result ≡ group_row (logged log.entry) group.now }
 {
-    match place_from(log, rows, group, at) {
+    match position_from(log, rows, group, at) {
         Ok(at) => Some(rows[at]),
         Err(_) => None,
     }
@@ -169,7 +169,7 @@ fn index(log: Log<'_>, rows: &[GroupRow], group: &Id) -> usize
     requires { AreGroupRows (logged log) rows.now }
     ensures { result ≤ length rows.now }
 {
-    match place(log, rows, group) {
+    match position(log, rows, group) {
         Ok(at) => at,
         Err(_) => 0,
     }
@@ -281,7 +281,7 @@ pub(crate) fn enter(log: Log<'_>, rows: &mut Vec<GroupRow>, entry: &Entry, at: u
 {
     let index = log.naming_len();
     let place = log.len() + 1;
-    match place_from(log, rows, named(entry), at) {
+    match position_from(log, rows, named(entry), at) {
         Ok(at) => rows[at] = rows[at].after(index, place, entry),
         Err(at) => match rows.insert(at, GroupRow::new(index).after(index, place, entry)) {
             Ok(()) => {}

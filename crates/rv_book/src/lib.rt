@@ -16,7 +16,7 @@ mod look;
 mod members;
 mod page;
 
-pub use book::Book;
+pub use book::{BOOK_LIMIT, Book};
 pub use clients::ClientRef;
 pub use entry::Entry;
 pub use fault::BookFault;

@@ -63,7 +63,7 @@ pub(crate) fn of_page(alloc: Global, page: &Page) -> Result<Vec<ClientRow>, Memo
 }
 
 // Where the row of a client of a group stands, or where it would go.
-fn place(log: Log<'_>, rows: &[ClientRow], group: &Id, client: &Id) -> Result<usize, usize>
+fn position(log: Log<'_>, rows: &[ClientRow], group: &Id, client: &Id) -> Result<usize, usize>
     requires { AreMemberRows (logged log) rows.now }
     ensures now { IsPositionOf (key_of_member (logged log.entry)) (member_key group.now client.now) rows.now result }
     ensures next { (entry : Entry) → IsPositionOf (key_of_member (with_entry (logged log.entry) entry)) (member_key group.now client.now) rows.now result }
@@ -108,7 +108,7 @@ fn enter_act(log: Log<'_>, rows: &mut Vec<ClientRow>, group: &Id, client: &Id)
     ensures rows { (entry : Entry) → is_act_of client.now entry ≡ true → group_of client.now (with_entry (logged log.entry) entry) ≡ Some group.now → AreMemberRows (with_entry (logged log.entry) entry) rows.new.items }
     ensures spare { vec_capacity rows.old - vec_len rows.old ≤ (vec_capacity rows.new - vec_len rows.new) + 1 }
 {
-    match place(log, rows, group, client) {
+    match position(log, rows, group, client) {
         Ok(at) => rows[at].acts += 1,
         Err(at) => {
             let row = ClientRow {

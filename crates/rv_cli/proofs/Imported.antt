@@ -8,7 +8,7 @@ use Rattle.rv_turns.specs.Asks.{Ask, Sender}
 use Rattle.rv_turns.specs.declared.mutation.Mutation.{Mutation}
 use Rattle.rv_turns.specs.declared.outcome.Outcome.{Outcome}
 use Rattle.rv_doubt.specs.Kept.{KeepsBook}
-use Rattle.rv_desk.specs.Seated.{DeskTakes, Seated, served}
+use Rattle.rv_desk.specs.DeskStates.{DeskTakes, DeskState, served}
 use Rattle.rv_import.specs.Imports.{Asked}
 use Rattle.rv_import.specs.Importing.{Imported, Imports, TakesInOrder}
 use Rattle.rv_import.specs.declared.import_end.ImportEnd.{ImportEnd}
@@ -33,10 +33,10 @@ use Rattle.rv_cli.proofs.Taking.{Before, turn_before}
 -- ---- Turns of a desk are those of its server.
 
 module _ {K : Type 0} (G : Ghosts K) (Told : Type 0) where
-  same_before : (old new : Seated K) → new ≡ old → Before G old new
-  same_before old new same = subst (λ (s : Seated K). Before G old s) (sym same) (record { told = λ t. t; steady = λ f. (f, refl) })
+  same_before : (old new : DeskState K) → new ≡ old → Before G old new
+  same_before old new same = subst (λ (s : DeskState K). Before G old s) (sym same) (record { told = λ t. t; steady = λ f. (f, refl) })
 
-  turns_go : (from : Sender) (ms : List Mutation) (old new : Seated K) (os : List Outcome) → TakesInOrder (DeskTakes G) from ms old os new
+  turns_go : (from : Sender) (ms : List Mutation) (old new : DeskState K) (os : List Outcome) → TakesInOrder (DeskTakes G) from ms old os new
       → Before G old new × ((Told → G.tells new.keeper) → TakesInOrder (TakesNear Told) from ms (served G.faults old) os (served G.faults new))
   turns_go from [] old new [] same = (same_before old new same, λ told. ap (served G.faults) same)
   turns_go from [] old new (o ∷ os) never = absurd never
@@ -52,13 +52,13 @@ module _ {K : Type 0} (G : Ghosts K) (Told : Type 0) where
         λ told. (served G.faults mid, record { turn = step.turn; near = λ t. step.assured.near (goes.told (told t)) }, on.1 told),
       )
 
-  imported_goes : (from : Sender) (asked : Asked) (old new : Seated K) (end : ImportEnd) → Imported (DeskTakes G) from asked old end new
+  imported_goes : (from : Sender) (asked : Asked) (old new : DeskState K) (end : ImportEnd) → Imported (DeskTakes G) from asked old end new
       → Before G old new × ((Told → G.tells new.keeper) → Imported (TakesNear Told) from asked (served G.faults old) end (served G.faults new))
   imported_goes from asked old new end i =
       let on = turns_go from i.taken old new i.outcomes i.turns in
       (on.0, λ told. record { taken = i.taken; left = i.left; outcomes = i.outcomes; all = i.all; turns = on.1 told; ends = i.ends })
 
-  imports_go : (user name bytes : List ℕ) (old new : Seated K) (end : ImportEnd) → Imports (DeskTakes G) user name bytes old end new
+  imports_go : (user name bytes : List ℕ) (old new : DeskState K) (end : ImportEnd) → Imports (DeskTakes G) user name bytes old end new
       → Before G old new × ((Told → G.tells new.keeper) → Imports (TakesNear Told) user name bytes (served G.faults old) end (served G.faults new))
   imports_go user name bytes old new ends.TooLarge (more, same) = (same_before old new same, λ told. (more, ap (served G.faults) same))
   imports_go user name bytes old new (ends.Done counts) (within, i) = let on = imported_goes _ _ old new (ends.Done counts) i in (on.0, λ told. (within, on.1 told))
@@ -66,20 +66,20 @@ module _ {K : Type 0} (G : Ghosts K) (Told : Type 0) where
   imports_go user name bytes old new (ends.Refused refusal) (within, i) = let on = imported_goes _ _ old new (ends.Refused refusal) i in (on.0, λ told. (within, on.1 told))
   imports_go user name bytes old new ends.Memory (within, i) = let on = imported_goes _ _ old new ends.Memory i in (on.0, λ told. (within, on.1 told))
 
-  pub input_goes : (user name : List ℕ) (old new : Seated K) (before after : InputState) (came : Result ImportEnd InputFault) → ImportsInput (DeskTakes G) user name old before after came new
+  pub input_goes : (user name : List ℕ) (old new : DeskState K) (before after : InputState) (came : Result ImportEnd InputFault) → ImportsInput (DeskTakes G) user name old before after came new
       → Before G old new × ((Told → G.tells new.keeper) → ImportsInput (TakesNear Told) user name (served G.faults old) before after came (served G.faults new))
   input_goes user name old new before after (Ok end) (bytes, whole, i) = let on = imports_go user name bytes old new end i in (on.0, λ told. (bytes, whole, on.1 told))
   input_goes user name old new before after (Err fault) (until, same) = (same_before old new same, λ told. (until, ap (served G.faults) same))
 
 -- the keeper that is left of an import goes on where the desk's did
-pub import_steady : {K : Type 0} (G : Ghosts K) (user name : List ℕ) (old : Seated K) (before after : InputState) (told : Result ImportEnd InputFault × K) → ImportsWith G old user name before after told
+pub import_steady : {K : Type 0} (G : Ghosts K) (user name : List ℕ) (old : DeskState K) (before after : InputState) (told : Result ImportEnd InputFault × K) → ImportsWith G old user name before after told
     → G.fails_no_more old.keeper → G.fails_no_more told.1 × (G.faults told.1 ≡ G.faults old.keeper)
 import_steady G user name old before after told w f =
     let (goes, same) = (input_goes G (Unit {0}) user name old w.new before after told.0 w.imports).0.steady f in
     (subst G.fails_no_more (sym w.keeper) goes, ap G.faults w.keeper ∙ same)
 
 -- the desk was opened, the input imported, and its keeper went back
-pub has_imported : {P K : Type 0} (place : PlaceGhosts P K) (G : Ghosts K) (store : List ℕ) (old mid new : P) (desk : Seated K) (user name : List ℕ) (told : Result ImportEnd InputFault × K) (input input' : InputState) (out out' : OutputState) (ending : ImportEnding)
+pub has_imported : {P K : Type 0} (place : PlaceGhosts P K) (G : Ghosts K) (store : List ℕ) (old mid new : P) (desk : DeskState K) (user name : List ℕ) (told : Result ImportEnd InputFault × K) (input input' : InputState) (out out' : OutputState) (ending : ImportEnding)
     → HasOpened place G store old desk mid → ImportsWith G desk user name input input' told → WentBack place G store mid new told.1 → WritesCame out out' told.0 ending
     → HasImported (change place store old new) user name input input' out out' ending
 has_imported {P} {K} place G store old mid new desk user name told input input' out out' ending opened w back writes =

@@ -10,7 +10,7 @@ use Rattle.rv_keeper.specs.Keeping.{HasKeepCause}
 use Rattle.rv_keeper.specs.Stores.{LeavesAsGiven, OpensWith}
 use Rattle.rv_book.specs.Book.{Book}
 use Rattle.rv_doubt.specs.Kept.{KeepsBook}
-use Rattle.rv_desk.specs.Seated.{IsSoundDesk, Seated, served}
+use Rattle.rv_desk.specs.DeskStates.{IsSoundDesk, DeskState, served}
 use Rattle.rv_cli.specs.declared.ending.Ending.{Ending}
 use Rattle.rv_cli.specs.declared.ending.Ending.TheVariants.{Done, Keeper, Damaged, Read, Write, Memory, Malformed}
 use Rattle.rv_cli.specs.Change.{change}
@@ -48,7 +48,7 @@ module _ {P K : Type 0} (place : PlaceGhosts P K) (G : Ghosts K) (store : List �
   Back mid new keeper = WentBack place G store mid new keeper
 
   -- the desk was opened and reported of, and its keeper went back
-  pub has_reported : (Writes : Book → OutputState → OutputState → Ending → Type 0) (old mid new : P) (desk : Seated K) (keeper : K) (out out' : OutputState) (ending : Ending)
+  pub has_reported : (Writes : Book → OutputState → OutputState → Ending → Type 0) (old mid new : P) (desk : DeskState K) (keeper : K) (out out' : OutputState) (ending : Ending)
       → HasOpened place G store old desk mid → keeper ≡ desk.keeper → KeepsBook G desk.keeper desk.book desk.doubt → IsSoundDesk desk
       → Back mid new keeper → Writes desk.book out out' ending
       → Reported (change place store old new) Writes out out' ending

@@ -8,7 +8,7 @@ use Rattle.rv_keeper.specs.declared.loaded.Loaded.{Loaded}
 use Rattle.rv_keeper.specs.declared.place.Place.{Ghosts as PlaceGhosts}
 use Rattle.rv_keeper.specs.Stores.{OpensAs}
 use Rattle.rv_doubt.specs.Kept.{KeepsBook}
-use Rattle.rv_desk.specs.Seated.{IsSoundDesk, Seated, served}
+use Rattle.rv_desk.specs.DeskStates.{IsSoundDesk, DeskState, served}
 use Rattle.rv_cli.specs.ServePromise.{serve_statuses}
 use Rattle.rv_book.specs.Book.{Book, size}
 use Rattle.rv_base.specs.declared.memory.Memory.{Memory as MemoryFault}
@@ -88,7 +88,7 @@ module _ {P K N : Type 0} (place : PlaceGhosts P K) (G : Ghosts K) (faults : N �
   }
 
   -- the store was opened, its desk came from the first to the last, and its keeper went back
-  module _ (old mid opened new : P) (said : AccountsServed) (first last : Seated K) (keeper : K) (read : Read old (Ok said) mid)
+  module _ (old mid opened new : P) (said : AccountsServed) (first last : DeskState K) (keeper : K) (read : Read old (Ok said) mid)
       (opens : HasOpened place G store mid first opened) (before : place.tells opened → G.tells first.keeper → place.tells mid) (is : keeper ≡ last.keeper)
       (kept : KeepsBook G last.keeper last.book last.doubt) (sound : IsSoundDesk last) (kept_before : G.tells last.keeper → G.tells first.keeper)
       (back : WentBack place G store opened new keeper) where
@@ -117,7 +117,7 @@ module _ {P K N : Type 0} (place : PlaceGhosts P K) (G : Ghosts K) (faults : N �
     pub serve_says : FileSays place name old new (Ok said)
     serve_says = says_later old mid new (Ok said) told read.gives_accounts.0
 
-    pub has_served : (Serves : AccountsServed → Seated K → Seated K → Type 0) (net net' : N) (entries : ℕ) (out out' : OutputState) (ending : ServeEnding) → Serves said first last
+    pub has_served : (Serves : AccountsServed → DeskState K → DeskState K → Type 0) (net net' : N) (entries : ℕ) (out out' : OutputState) (ending : ServeEnding) → Serves said first last
         → entries ≡ size last.book → WritesCount (count_text entries) out out' ending
         → HasServed place G faults store name old new net net' Serves out out' ending
     has_served Serves net net' entries out out' ending serves count text = record {
@@ -141,7 +141,7 @@ module _ {P K N : Type 0} (place : PlaceGhosts P K) (G : Ghosts K) (faults : N �
       first = served G.faults first;
       begins = serve_begins;
       why = why;
-      leaves = subst (λ (desk : Seated K). Leaves (change place store old new) (served G.faults desk)) same serve_leaves;
+      leaves = subst (λ (desk : DeskState K). Leaves (change place store old new) (served G.faults desk)) same serve_leaves;
       text = text;
     }
 
@@ -155,30 +155,30 @@ each_back Serves first (given ∷ givens) [] backs never = absurd never
 each_back Serves first (given ∷ givens) (last ∷ lasts) [] never = absurd never
 
 -- what comes of serving listeners
-abbrev pub Comes : {K L P : Type 0} (G : Ghosts K) (Serves : SeatView K → L → SeatView K → L → Type 0) (Pokes : SeatView K → P → SeatView K → P → Type 0) (opened desk : Seated K) (givens : List L) (poked : List P) (backs : List L) (poked_back : List P) → Result (Unit {0}) MemoryFault → Type 0
+abbrev pub Comes : {K L P : Type 0} (G : Ghosts K) (Serves : SeatView K → L → SeatView K → L → Type 0) (Pokes : SeatView K → P → SeatView K → P → Type 0) (opened desk : DeskState K) (givens : List L) (poked : List P) (backs : List L) (poked_back : List P) → Result (Unit {0}) MemoryFault → Type 0
 Comes G Serves Pokes opened desk givens poked backs poked_back result =
     MatchResult result (λ done. ServesBothKinds G Serves Pokes opened givens poked desk backs poked_back) (λ refused. (desk ≡ opened) × (backs ≡ givens) × (poked_back ≡ poked))
 
-pub all_back : {K L P : Type 0} (G : Ghosts K) (Serves : SeatView K → L → SeatView K → L → Type 0) (Pokes : SeatView K → P → SeatView K → P → Type 0) (opened desk : Seated K) (givens : List L) (poked : List P) (backs : List L) (poked_back : List P) (result : Result (Unit {0}) MemoryFault)
+pub all_back : {K L P : Type 0} (G : Ghosts K) (Serves : SeatView K → L → SeatView K → L → Type 0) (Pokes : SeatView K → P → SeatView K → P → Type 0) (opened desk : DeskState K) (givens : List L) (poked : List P) (backs : List L) (poked_back : List P) (result : Result (Unit {0}) MemoryFault)
     → Comes G Serves Pokes opened desk givens poked backs poked_back result → (length backs ≡ length givens) × (length poked_back ≡ length poked)
 all_back G Serves Pokes opened desk givens poked backs poked_back (Ok done) together =
     (each_back Serves (newcomer 1 opened) givens together.conns.views backs together.conns.serves, each_back Pokes (newcomer 1 opened) poked together.lookers poked_back together.pokes)
 all_back G Serves Pokes opened desk givens poked backs poked_back (Err refused) (same, is, are) = (ap length is, ap length are)
 
 -- where the desk's keeper tells at the end, it told at the beginning
-pub net_before : {K : Type 0} (Is : Type 0) (kept_tells : K → Type 0) (before after : ℕ) (old new : Seated K) (result : Result (Unit {0}) Fault)
+pub net_before : {K : Type 0} (Is : Type 0) (kept_tells : K → Type 0) (before after : ℕ) (old new : DeskState K) (result : Result (Unit {0}) Fault)
     → NetResult Is kept_tells before after old new result → kept_tells new.keeper → kept_tells old.keeper
 net_before Is kept_tells before after old new (Ok done) (serves, told, same) = told
-net_before Is kept_tells before after old new (Err outside.Failed) (same, rose) = λ t. subst (λ (desk : Seated _). kept_tells desk.keeper) same t
-net_before Is kept_tells before after old new (Err outside.Memory) same = λ t. subst (λ (desk : Seated _). kept_tells desk.keeper) same t
+net_before Is kept_tells before after old new (Err outside.Failed) (same, rose) = λ t. subst (λ (desk : DeskState _). kept_tells desk.keeper) same t
+net_before Is kept_tells before after old new (Err outside.Memory) same = λ t. subst (λ (desk : DeskState _). kept_tells desk.keeper) same t
 
 module _ {P K N : Type 0} (place : PlaceGhosts P K) (G : Ghosts K) (faults : N → ℕ) (store name : List ℕ) where
   -- the store was opened, the net was served or not, and what is told of it
-  pub serve_ended : (old mid opened new : P) (said : AccountsServed) (first last : Seated K) (keeper : K) → AccountsRead place name old (Ok said) mid
+  pub serve_ended : (old mid opened new : P) (said : AccountsServed) (first last : DeskState K) (keeper : K) → AccountsRead place name old (Ok said) mid
       → HasOpened place G store mid first opened → (place.tells opened → G.tells first.keeper → place.tells mid) → keeper ≡ last.keeper
       → KeepsBook G last.keeper last.book last.doubt → IsSoundDesk last
       → WentBack place G store opened new keeper
-      → (Serves : AccountsServed → Seated K → Seated K → Type 0) (net net' : N) (result : Result (Unit {0}) Fault) (entries : ℕ) (out out' : OutputState) (ending : ServeEnding)
+      → (Serves : AccountsServed → DeskState K → DeskState K → Type 0) (net net' : N) (result : Result (Unit {0}) Fault) (entries : ℕ) (out out' : OutputState) (ending : ServeEnding)
       → NetResult (Serves said first last) G.tells (faults net) (faults net') first last result
       → entries ≡ size last.book → WritesServed result entries out out' ending
       → HasNoNet place G faults store name old new net net' out out' ending
@@ -249,7 +249,7 @@ served_undamaged book old new (NotOpened ending) never is = never
 served_undamaged book old new Net never is = never
 served_undamaged book old new Memory never is = never
 
-pub serve_sound : {P K N : Type 0} (place : PlaceGhosts P K) (G : Ghosts K) (faults : N → ℕ) (store name : List ℕ) (old new : P) (net net' : N) (Serves : AccountsServed → Seated K → Seated K → Type 0) (out out' : OutputState) (status : ℕ)
+pub serve_sound : {P K N : Type 0} (place : PlaceGhosts P K) (G : Ghosts K) (faults : N → ℕ) (store name : List ℕ) (old new : P) (net net' : N) (Serves : AccountsServed → DeskState K → DeskState K → Type 0) (out out' : OutputState) (status : ℕ)
     → place.tells new → KeptSound (OpensAs store (place.holds old store)) → RunsServe place G faults store name old new net net' Serves out out' status → status ≢ 5
 serve_sound place G faults store name old new net net' Serves out out' status told kept (ending, is, inl refused) five =
     accounts_undamaged place name old new ending refused.why (sym is ∙ five)
@@ -370,7 +370,7 @@ module _ {P K N : Type 0} (place : PlaceGhosts P K) (faults : N → ℕ) (store 
   served_facts book Net is never = absurd never
   served_facts book Memory is never = absurd never
 
-  pub serve_facts : (G : Ghosts K) (Serves : AccountsServed → Seated K → Seated K → Type 0) → RunsServe place G faults store name old new net net' Serves out out' status → Facts
+  pub serve_facts : (G : Ghosts K) (Serves : AccountsServed → DeskState K → DeskState K → Type 0) → RunsServe place G faults store name old new net net' Serves out out' status → Facts
   serve_facts G Serves (ending, is, inl refused) = refused_facts ending is refused.why refused.text
   serve_facts G Serves (ending, is, inr (inl none)) = store_facts none.other (is ∙ ap serve_status none.is) none.why (serve_text ending) none.text
   serve_facts G Serves (ending, is, inr (inr (inl none))) = no_net_facts ending is none.why none.text

@@ -3,9 +3,9 @@ use Rattle.std.proofs.Common.{◌≡◌, ◌≢◌, ℕ, ◌-◌, ◌^◌, ◌�
 use Rattle.std.specs.Prelude.{codes}
 use Rattle.rv_base.specs.Outside.{InputState, OutputState}
 use Rattle.rv_book.specs.Book.{empty_book}
-use Rattle.rv_history.specs.LawfulBooks.{lawful_none}
+use Rattle.rv_history.specs.LawfulBookLaws.{lawful_none}
 use Rattle.rv_history.specs.ReplayLaws.{replay_none}
-use Rattle.rv_news.specs.KeptRecords.{records_none}
+use Rattle.rv_news.specs.KeptRecordLaws.{records_none}
 use Rattle.rv_keeper.specs.declared.loaded.Loaded.{Loaded}
 use Rattle.rv_keeper.specs.Keeping.{holding}
 use Rattle.rv_keeper.specs.Stores.{OpensAs}

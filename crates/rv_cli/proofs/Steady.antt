@@ -4,7 +4,7 @@ use Rattle.rv_keeper.specs.declared.keeper.Keeper.{Ghosts}
 use Rattle.rv_keeper.specs.declared.place.Place.{Ghosts as PlaceGhosts}
 use Rattle.rv_keeper.specs.Keeping.{HasKeepCause}
 use Rattle.rv_keeper.specs.Stores.{TakesUp}
-use Rattle.rv_desk.specs.Seated.{Seated}
+use Rattle.rv_desk.specs.DeskStates.{DeskState}
 use Rattle.rv_desk.specs.Opened.{IsRefused}
 use Rattle.rv_desk.specs.declared.open_fault.OpenFault.{OpenFault}
 use Rattle.rv_desk.specs.declared.open_fault.OpenFault.TheVariants as faulting
@@ -66,7 +66,7 @@ count_stays outside.Failed before now never cause = absurd (never refl)
 count_stays outside.Memory before now never cause = cause.memory refl
 
 -- a desk, and a check, for which no keeper was given
-pub desk_not_given : {T K : Type 0} (steady : K → Type 0) (faults : K → ℕ) (fault : Fault) (result : Result (Seated K) Ending) → ¬ IsErrOf {T = T} (Err fault) outside.Failed → IsErr result × IsErrAnd result (λ ending. ending ≡ keep_ending fault) → DeskIsSteady steady faults result
+pub desk_not_given : {T K : Type 0} (steady : K → Type 0) (faults : K → ℕ) (fault : Fault) (result : Result (DeskState K) Ending) → ¬ IsErrOf {T = T} (Err fault) outside.Failed → IsErr result × IsErrAnd result (λ ending. ending ≡ keep_ending fault) → DeskIsSteady steady faults result
 desk_not_given steady faults fault (Ok desk) never is = absurd (let is = is.0 in cc)
 desk_not_given steady faults fault (Err ending) never is = not_given fault ending never is.1
 

@@ -10,7 +10,7 @@ use Rattle.rv_keeper.specs.declared.keeper.Keeper.{Ghosts}
 use Rattle.rv_keeper.specs.declared.place.Place.{Ghosts as PlaceGhosts}
 use Rattle.rv_keeper.specs.Keeping.{HasKeepCause, holding}
 use Rattle.rv_keeper.specs.Stores.{LeavesAsGiven, OpensAs, OpensWith, TakesUp}
-use Rattle.rv_desk.specs.Seated.{Seated, served}
+use Rattle.rv_desk.specs.DeskStates.{DeskState, served}
 use Rattle.rv_desk.specs.Opened.{IsLeft, IsRefused}
 use Rattle.rv_desk.specs.declared.open_fault.OpenFault.{OpenFault}
 use Rattle.rv_desk.specs.declared.open_fault.OpenFault.TheVariants as faulting
@@ -83,7 +83,7 @@ module _ {P K : Type 0} (place : PlaceGhosts P K) (G : Ghosts K) (store : List �
     pub taken : TakesUp (G.faults keeper) (place.faults before) (place.faults after)
 
   -- the store's keeper was fetched, and its desk opened or not
-  pub store_opened : (kept : K) (old mid new : P) (result : Result (Seated K) Ending) → (place.tells mid → place.is_out mid store) → (place.tells mid → G.tells kept → OpensWith store (place.holds old store) (G.holds kept)) → (place.honest mid → G.honest kept → LeavesAsGiven store (place.may_leave old store) (G.may_leave kept))
+  pub store_opened : (kept : K) (old mid new : P) (result : Result (DeskState K) Ending) → (place.tells mid → place.is_out mid store) → (place.tells mid → G.tells kept → OpensWith store (place.holds old store) (G.holds kept)) → (place.honest mid → G.honest kept → LeavesAsGiven store (place.may_leave old store) (G.may_leave kept))
       → (place.tells mid → place.honest mid) → G.faults kept ≡ 0 → place.faults mid ≡ place.faults old
       → OpensKept place G store kept mid result new → OpensStore place G store old result new
   store_opened kept old mid new (Ok desk) out got gave honestly none still opened = record {
@@ -127,7 +127,7 @@ module _ {P K : Type 0} (place : PlaceGhosts P K) (G : Ghosts K) (store : List �
       again (Malformed number) told never = never
 
   -- the place gave no keeper, and so there is no desk
-  pub store_refused : {T : Type 0} (old new : P) (fault : Fault) (result : Result (Seated K) Ending) → HasKeepCause {T = T} (place.faults old) (place.faults new) (Err fault) → IsErr result × IsErrAnd result (λ ending. ending ≡ keep_ending fault) → (place.tells new → (held : Loaded) → place.holds old store held → place.holds new store held)
+  pub store_refused : {T : Type 0} (old new : P) (fault : Fault) (result : Result (DeskState K) Ending) → HasKeepCause {T = T} (place.faults old) (place.faults new) (Err fault) → IsErr result × IsErrAnd result (λ ending. ending ≡ keep_ending fault) → (place.tells new → (held : Loaded) → place.holds old store held → place.holds new store held)
       → (place.tells new → (left : Option Loaded) → place.may_leave new store left → place.may_leave old store left) → OpensStore place G store old result new
   store_refused old new fault (Ok desk) cause is same left = absurd (let is = is.0 in cc)
   store_refused old new fault (Err ending) cause is same left = (not_given (change place store old new) fault ending cause is.1, record { held = λ t. inl (same t); left = λ t x may. inl (left t x may) })
@@ -151,21 +151,21 @@ module _ {P K : Type 0} (place : PlaceGhosts P K) (G : Ghosts K) (store : List �
       why faulting.Memory still = tt
 
   -- a keeper was given, which told only where the place did
-  pub told_before : (kept : K) (old mid new : P) (result : Result (Seated K) Ending) → (place.tells mid → G.tells kept → place.tells old) → G.faults kept ≡ 0 → OpensKept place G store kept mid result new → ToldBefore place G old result new
+  pub told_before : (kept : K) (old mid new : P) (result : Result (DeskState K) Ending) → (place.tells mid → G.tells kept → place.tells old) → G.faults kept ≡ 0 → OpensKept place G store kept mid result new → ToldBefore place G old result new
   told_before kept old mid new (Ok desk) got none opened = λ t now. got (subst (λ (p : P). place.tells p) opened.same t) (opened.told now)
   told_before kept old mid new (Err ending) got none opened = λ t. let (was, tells) = (opened none).0 t in got was tells
 
   -- no keeper was given
-  pub told_refused : (old new : P) (result : Result (Seated K) Ending) → IsErr result → (place.tells new → place.tells old) → ToldBefore place G old result new
+  pub told_refused : (old new : P) (result : Result (DeskState K) Ending) → IsErr result → (place.tells new → place.tells old) → ToldBefore place G old result new
   told_refused old new (Ok desk) is told = absurd (cc)
   told_refused old new (Err ending) is told = told
 
   -- a desk is opened only of a store that was there
-  pub opened_there : (There : Type 0) (kept : K) (mid new : P) (result : Result (Seated K) Ending) → (place.tells mid → There) → OpensKept place G store kept mid result new → place.tells new → IsOk result → There
+  pub opened_there : (There : Type 0) (kept : K) (mid new : P) (result : Result (DeskState K) Ending) → (place.tells mid → There) → OpensKept place G store kept mid result new → place.tells new → IsOk result → There
   opened_there There kept mid new (Ok desk) there opened t ok = there (subst (λ (p : P). place.tells p) opened.same t)
   opened_there There kept mid new (Err ending) there opened t ok = absurd (cc)
 
-  keeps_so : (old mid new : P) (desk : Seated K) (keeper : K) (ending : Ending) → G.faults desk.keeper ≡ 0 → place.faults mid ≡ place.faults old → WentBack mid new keeper
+  keeps_so : (old mid new : P) (desk : DeskState K) (keeper : K) (ending : Ending) → G.faults desk.keeper ≡ 0 → place.faults mid ≡ place.faults old → WentBack mid new keeper
       → RoseAt G ending (G.faults desk.keeper) keeper → KeepsSo (change place store old new) ending
   keeps_so old mid new desk keeper Keeper none same back rose =
       subst (λ (n : ℕ). Rose n (place.faults new)) same (rises (G.faults keeper) (place.faults mid) (place.faults new) (above_none (G.faults keeper) (subst (λ (n : ℕ). Rose n (G.faults keeper)) none rose)) back.taken)
@@ -176,7 +176,7 @@ module _ {P K : Type 0} (place : PlaceGhosts P K) (G : Ghosts K) (store : List �
   keeps_so old mid new desk keeper Memory none same taken rose = tt
   keeps_so old mid new desk keeper (Malformed number) none same taken rose = tt
 
-  pub begins : (old mid new : P) (desk : Seated K) (keeper : K) → HasOpened place G store old desk mid → (G.tells keeper → G.tells desk.keeper) → WentBack mid new keeper
+  pub begins : (old mid new : P) (desk : DeskState K) (keeper : K) → HasOpened place G store old desk mid → (G.tells keeper → G.tells desk.keeper) → WentBack mid new keeper
       → Begins (change place store old new) (served G.faults desk)
   begins old mid new desk keeper opened before back = record {
     loaded = opened.loaded;
@@ -198,7 +198,7 @@ module _ {P K : Type 0} (place : PlaceGhosts P K) (G : Ghosts K) (store : List �
   }
 
   -- the desk was opened and fed, and its keeper went back
-  pub has_fed : {T E : Type 0} (old mid new : P) (desk : Seated K) (ended' : Ending × K) (input input' : InputState) (first out out' : OutputState) (result : Result T E)
+  pub has_fed : {T E : Type 0} (old mid new : P) (desk : DeskState K) (ended' : Ending × K) (input input' : InputState) (first out out' : OutputState) (result : Result T E)
       → HasOpened place G store old desk mid → FeedsWith G desk input input' first out ended' → WentBack mid new ended'.1 → Writes out out' result (status_text ended'.0)
       → HasFed (change place store old new) input input' first out' ended'.0
   has_fed old mid new desk ended' input input' first out out' result opened fed back w =
@@ -217,7 +217,7 @@ module _ {P K : Type 0} (place : PlaceGhosts P K) (G : Ghosts K) (store : List �
       }
 
   -- the same of one line
-  pub has_replied : (old mid new : P) (desk : Seated K) (line : Line) (told : Answer × K) (first out : OutputState) (ending : Ending)
+  pub has_replied : (old mid new : P) (desk : DeskState K) (line : Line) (told : Answer × K) (first out : OutputState) (ending : Ending)
       → HasOpened place G store old desk mid → Replies G desk line told → WentBack mid new told.1 → WritesReply first out told.0 ending
       → Replied (change place store old new) line first out ending
   has_replied old mid new desk line told first out Done opened replies back (appended, still) = record {

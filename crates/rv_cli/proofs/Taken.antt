@@ -1,6 +1,6 @@
 -- How the lines end, by what who takes them shows.
 use Rattle.std.proofs.Common.{◌≡◌, ℕ, ◌+◌, ◌^◌, ◌<◌, ◌≤◌, Bool, true, false, List, [], Result, Ok, Err, sym, ◌∙◌, subst, arith}
-use Rattle.rv_base.specs.Causes.{rose_before}
+use Rattle.rv_base.specs.CauseLaws.{rose_before}
 use Rattle.rv_base.specs.Outside.{InputState, OutputState}
 use Rattle.rv_lines.specs.Reading.{Reading, unread, GivesNext, ReadsFor, gives_end, read_failed}
 use Rattle.rv_base.specs.declared.fault.Fault.{Fault}

@@ -5,7 +5,7 @@ use Rattle.rv_book.specs.Book.{Book, size}
 use Rattle.rv_history.specs.Served.{Doubt, MayStand, TakesTurn}
 use Rattle.rv_history.specs.TurnLaws.{still_of}
 use Rattle.rv_keeper.specs.declared.keeper.Keeper.{Ghosts}
-use Rattle.rv_desk.specs.Seated.{DeskKeeps, DeskTakes, IsSoundDesk, Seated, served}
+use Rattle.rv_desk.specs.DeskStates.{DeskKeeps, DeskTakes, IsSoundDesk, DeskState, served}
 use Rattle.rv_desk.specs.Opened.{OpensAgain, StaysAsItWas}
 use Rattle.rv_desk.specs.declared.open_fault.OpenFault.{OpenFault}
 use Rattle.rv_desk.specs.declared.open_fault.OpenFault.TheVariants as faulting
@@ -15,7 +15,7 @@ use Rattle.rv_answering.specs.declared.line.Line.TheVariants.{Asks, Stop}
 use Rattle.rv_answering.specs.Reads.{IsReading, IsLineRead, AreLines}
 use Rattle.rv_answering.specs.Requests.{Parsed, line_of}
 use Rattle.rv_answering.specs.StepLaws.{shown_takes, handled_shown}
-use Rattle.rv_answering.specs.StepMaps.{map_handled}
+use Rattle.rv_answering.specs.StepMapLaws.{map_handled}
 use Rattle.rv_answering.specs.Steps as steps
 use Rattle.rv_cli.specs.declared.ending.Ending.{Ending}
 use Rattle.rv_cli.specs.declared.ending.Ending.TheVariants.{Done, Keeper, Damaged, Read, Write, Memory, Malformed}
@@ -39,7 +39,7 @@ none_next book limit (Some next) none = absurd (cc)
 module _ {K : Type 0} (G : Ghosts K) where
   -- ---- A stop.
 
-  pub restarted : (old new : Seated K) → OpensAgain G old new → Restarts G old new
+  pub restarted : (old new : DeskState K) → OpensAgain G old new → Restarts G old new
   restarted old new again = (
     record {
       sound = record {
@@ -55,18 +55,18 @@ module _ {K : Type 0} (G : Ghosts K) where
     again.opens.told,
   )
 
-  stands_still : (old new : Seated K) (fault : OpenFault) → StaysAsItWas G old fault new → StandsAs G.faults (served G.faults old) new
+  stands_still : (old new : DeskState K) (fault : OpenFault) → StaysAsItWas G old fault new → StandsAs G.faults (served G.faults old) new
   stands_still old new fault stays = record { book = stays.book; limit = stays.limit; doubt = stays.doubt; later = stays.left.later }
 
-  pub not_restarted : (old new : Seated K) (fault : OpenFault) → StaysAsItWas G old fault new → RestartsOrNot G old (Err (fault_ending fault)) new
+  pub not_restarted : (old new : DeskState K) (fault : OpenFault) → StaysAsItWas G old fault new → RestartsOrNot G old (Err (fault_ending fault)) new
   not_restarted old new faulting.Keeper stays = (tt, stands_still old new faulting.Keeper stays, stays.left.told, stays.why.0)
   not_restarted old new (faulting.Damaged damage) stays = (tt, stands_still old new (faulting.Damaged damage) stays, stays.left.told, stays.sound damage refl)
   not_restarted old new faulting.Memory stays = (tt, stands_still old new faulting.Memory stays, stays.left.told, tt)
 
-  pub restarted_steady : (old new : Seated K) → OpensAgain G old new → G.fails_no_more old.keeper → DeskKeepsSteady G.fails_no_more G.faults old.keeper new.keeper
+  pub restarted_steady : (old new : DeskState K) → OpensAgain G old new → G.fails_no_more old.keeper → DeskKeepsSteady G.fails_no_more G.faults old.keeper new.keeper
   restarted_steady old new again f = (again.opens.goes_on f, again.opens.still)
 
-  pub refused_steady : (old new : Seated K) (fault : OpenFault) → StaysAsItWas G old fault new → G.fails_no_more old.keeper → LineKeepsSteady (G.fails_no_more new.keeper) (G.faults old.keeper) (G.faults new.keeper) (Err (fault_ending fault))
+  pub refused_steady : (old new : DeskState K) (fault : OpenFault) → StaysAsItWas G old fault new → G.fails_no_more old.keeper → LineKeepsSteady (G.fails_no_more new.keeper) (G.faults old.keeper) (G.faults new.keeper) (Err (fault_ending fault))
   refused_steady old new faulting.Keeper stays f = absurd (stays.why.1 f)
   refused_steady old new (faulting.Damaged damage) stays f = ((stays.left.goes_on f, stays.why.still), λ e. absurd (cc))
   refused_steady old new faulting.Memory stays f = ((stays.left.goes_on f, stays.why), λ e. absurd (cc))
@@ -74,30 +74,30 @@ module _ {K : Type 0} (G : Ghosts K) where
   -- ---- Turns of a desk.
 
   -- the keeper of a desk tells only if it told, and one that fails no more goes on so, with no fault
-  pub record Before (old new : Seated K) : Type 0 where
+  pub record Before (old new : DeskState K) : Type 0 where
     pub told : G.tells new.keeper → G.tells old.keeper
     pub steady : G.fails_no_more old.keeper → DeskKeepsSteady G.fails_no_more G.faults old.keeper new.keeper
 
-  before_same : (s : Seated K) → Before s s
+  before_same : (s : DeskState K) → Before s s
   before_same s = record { told = λ t. t; steady = λ f. (f, refl) }
 
-  before_on : (s t u : Seated K) → Before s t → Before t u → Before s u
+  before_on : (s t u : DeskState K) → Before s t → Before t u → Before s u
   before_on s t u first next = record { told = λ x. first.told (next.told x); steady = λ f. let (g, same) = first.steady f in let (h, also) = next.steady g in (h, also ∙ same) }
 
   -- a turn as one of its server, with what is known besides
-  abbrev pub desk_takes : Seated K → Ask → Outcome → Seated K → Type 0
+  abbrev pub desk_takes : DeskState K → Ask → Outcome → DeskState K → Type 0
   desk_takes old ask outcome new = TakesTurn pull_json (served G.faults old) ask outcome (served G.faults new) × Before old new × (IsChanged (trouble_of outcome) → G.tells new.keeper → ⊥)
 
-  pub turn_before : (old new : Seated K) (ask : Ask) (outcome : Outcome) → DeskTakes G old ask outcome new → Before old new
+  pub turn_before : (old new : DeskState K) (ask : Ask) (outcome : Outcome) → DeskTakes G old ask outcome new → Before old new
   turn_before old new ask outcome takes = record {
     told = takes.assured.told;
     steady = λ f. (takes.assured.goes_on f, still_of pull_json ask outcome (served G.faults old) (served G.faults new) takes.turn (takes.assured.sure f));
   }
 
-  turn_takes : (old new : Seated K) (ask : Ask) (outcome : Outcome) → DeskTakes G old ask outcome new → desk_takes old ask outcome new
+  turn_takes : (old new : DeskState K) (ask : Ask) (outcome : Outcome) → DeskTakes G old ask outcome new → desk_takes old ask outcome new
   turn_takes old new ask outcome takes = (takes.turn, turn_before old new ask outcome takes, λ changed told. takes.assured.near told changed)
 
-  desk_goes : (old new : Seated K) (asked : Parsed) (answer : Answer)
+  desk_goes : (old new : DeskState K) (asked : Parsed) (answer : Answer)
       → steps.Handles desk_takes old asked answer new → steps.Handles (TakesTurn pull_json) (served G.faults old) asked answer (served G.faults new) × Before old new
   desk_goes old new asked answer step = handled_shown (served G.faults) Before before_same before_on (TakesTurn pull_json) old new asked answer
       (map_handled desk_takes (shown_takes (served G.faults) Before before_same before_on (TakesTurn pull_json))
@@ -105,38 +105,38 @@ module _ {K : Type 0} (G : Ghosts K) where
       old new asked answer step)
 
   -- a turn tells that another changed what is kept only where its keeper does not tell
-  desk_near : (old new : Seated K) (asked : Parsed) (answer : Answer) → steps.Handles desk_takes old asked answer new
+  desk_near : (old new : DeskState K) (asked : Parsed) (answer : Answer) → steps.Handles desk_takes old asked answer new
       → (G.tells new.keeper → G.tells old.keeper) × (AnswersChange (Some answer) → G.tells new.keeper → ⊥)
-  desk_near = any_step_causes (λ found. IsChanged (Some found)) desk_takes (λ (old new : Seated K). G.tells new.keeper → G.tells old.keeper) (λ (old new : Seated K). G.tells new.keeper → ⊥)
+  desk_near = any_step_causes (λ found. IsChanged (Some found)) desk_takes (λ (old new : DeskState K). G.tells new.keeper → G.tells old.keeper) (λ (old new : DeskState K). G.tells new.keeper → ⊥)
       (λ s t. t) (λ s t u first next told. first (next told)) (λ s t u goes rises. rises)
       (λ ask old new outcome takes. (takes.1.told, λ (found, is, changed) told. takes.2 (subst IsChanged (sym is) changed) told))
 
   -- what a desk handles, by what a keeper shows
-  pub desk_handles : (old new : Seated K) (asked : Parsed) (answer : Answer) → steps.Handles (DeskTakes G) old asked answer new → TakesStep (G.tells new.keeper) (served G.faults old) asked answer (served G.faults new) × Before old new
+  pub desk_handles : (old new : DeskState K) (asked : Parsed) (answer : Answer) → steps.Handles (DeskTakes G) old asked answer new → TakesStep (G.tells new.keeper) (served G.faults old) asked answer (served G.faults new) × Before old new
   desk_handles old new asked answer handled =
       let step : steps.Handles desk_takes old asked answer new = map_handled (DeskTakes G) desk_takes turn_takes old new asked answer handled in
       let goes = desk_goes old new asked answer step in
       (record { step = goes.0; near = λ told change. (desk_near old new asked answer step).1 change told }, goes.1)
 
   -- the answer to one request, with the keeper of the desk that is closed then
-  pub desk_replies : (old new : Seated K) (keeper : K) (asked : Parsed) (answer : Answer) → steps.Handles (DeskTakes G) old asked answer new → keeper ≡ new.keeper → DeskKeeps G new → IsSoundDesk new → Replies G old (Asks asked) (answer, keeper)
+  pub desk_replies : (old new : DeskState K) (keeper : K) (asked : Parsed) (answer : Answer) → steps.Handles (DeskTakes G) old asked answer new → keeper ≡ new.keeper → DeskKeeps G new → IsSoundDesk new → Replies G old (Asks asked) (answer, keeper)
   desk_replies old new keeper asked answer handled same kept sound =
       let (step, before) = desk_handles old new asked answer handled in
       subst (λ (k : K). Replies G old (Asks asked) (answer, k)) (sym same) (record { new = served G.faults new; step = step; left = record { kept = kept; sound = record { book = sound.book; small = sound.small; fits = sound.fits; next = sound.next }; later = omega arith }; before = before.told })
 
-  pub replies_steady : (old new : Seated K) (keeper : K) (asked : Parsed) (answer : Answer) → steps.Handles (DeskTakes G) old asked answer new → keeper ≡ new.keeper → G.fails_no_more old.keeper → G.fails_no_more keeper × (G.faults keeper ≡ G.faults old.keeper)
+  pub replies_steady : (old new : DeskState K) (keeper : K) (asked : Parsed) (answer : Answer) → steps.Handles (DeskTakes G) old asked answer new → keeper ≡ new.keeper → G.fails_no_more old.keeper → G.fails_no_more keeper × (G.faults keeper ≡ G.faults old.keeper)
   replies_steady old new keeper asked answer handled same f =
       let (goes, still) = (desk_handles old new asked answer handled).1.steady f in
       (subst G.fails_no_more (sym same) goes, ap G.faults same ∙ still)
 
-  pub answered_whole : {E : Type 0} (old new : Seated K) (asked : Parsed) (answer : Answer) (before now : OutputState) (result : Result (Unit {0}) E) → result ≡ Ok tt → steps.Handles (DeskTakes G) old asked answer new
+  pub answered_whole : {E : Type 0} (old new : DeskState K) (asked : Parsed) (answer : Answer) (before now : OutputState) (result : Result (Unit {0}) E) → result ≡ Ok tt → steps.Handles (DeskTakes G) old asked answer new
       → Writes before now result (text_of answer) → ServesOrNot G old asked (Ok tt) new before now
   answered_whole {E} old new asked answer before now result is handled w =
       let all = subst (λ (r : Result (Unit {0}) E). Writes before now r (text_of answer)) is w in
       let (step, goes) = desk_handles old new asked answer handled in
       ((answer, step, all.bytes), record { faults = all.cause.still; refusals = all.memory.still }, goes.told)
 
-  pub answered_front : {T E : Type 0} (old new : Seated K) (asked : Parsed) (answer : Answer) (before now : OutputState) (result : Result T E) (fault : E) → result ≡ Err fault → steps.Handles (DeskTakes G) old asked answer new
+  pub answered_front : {T E : Type 0} (old new : DeskState K) (asked : Parsed) (answer : Answer) (before now : OutputState) (result : Result T E) (fault : E) → result ≡ Err fault → steps.Handles (DeskTakes G) old asked answer new
       → Writes before now result (text_of answer) → ServesOrNot G old asked (Err Write) new before now
   answered_front {T} {E} old new asked answer before now result fault is handled w =
       let part = subst (λ (r : Result T E). Writes before now r (text_of answer)) is w in
@@ -166,7 +166,7 @@ module _ {K : Type 0} (G : Ghosts K) where
       stop_of (Asks asked) e h = absurd h
       stop_of Stop e h = e
 
-  answered_line : (old new : Seated K) (line : List ℕ) (number : ℕ) (asked : Parsed) (result : Result (Unit {0}) Ending) (before now : OutputState) → line_of line ≡ Some (Asks asked) → ServesOrNot G old asked result new before now → TakesLine (desk_taker G) old line number result new before now
+  answered_line : (old new : DeskState K) (line : List ℕ) (number : ℕ) (asked : Parsed) (result : Result (Unit {0}) Ending) (before now : OutputState) → line_of line ≡ Some (Asks asked) → ServesOrNot G old asked result new before now → TakesLine (desk_taker G) old line number result new before now
   answered_line old new line number asked (Ok done) before now is ((answer, step, appended), counts, told) = record {
     goes = record { answer = Some answer; step = record { taken = Asks asked; asks = is; step = step }; adds = (appended, counts) };
     told = told;
@@ -186,13 +186,13 @@ module _ {K : Type 0} (G : Ghosts K) where
   answered_line old new line number asked (Err Memory) before now is never = absurd never
   answered_line old new line number asked (Err (Malformed n)) before now is never = absurd never
 
-  pub takes_asked : (old new : Seated K) (line : List ℕ) (number : ℕ) (read : Parsed) (result : Result (Unit {0}) Ending) (before now : OutputState) → AreLines (line_of line) (Some (Asks read))
+  pub takes_asked : (old new : DeskState K) (line : List ℕ) (number : ℕ) (read : Parsed) (result : Result (Unit {0}) Ending) (before now : OutputState) → AreLines (line_of line) (Some (Asks read))
       → ((asked : Parsed) → IsReading asked read → ServesOrNot G old asked result new before now) → TakesLine (desk_taker G) old line number result new before now
   takes_asked old new line number read result before now lines serves =
       let (asked, is, reading) = lines_ask line read lines in
       answered_line old new line number asked result before now is (serves asked reading)
 
-  stopped_line : (old new : Seated K) (line : List ℕ) (number : ℕ) (result : Result (Unit {0}) Ending) (out : OutputState) → line_of line ≡ Some Stop → RestartsOrNot G old result new → TakesLine (desk_taker G) old line number result new out out
+  stopped_line : (old new : DeskState K) (line : List ℕ) (number : ℕ) (result : Result (Unit {0}) Ending) (out : OutputState) → line_of line ≡ Some Stop → RestartsOrNot G old result new → TakesLine (desk_taker G) old line number result new out out
   stopped_line old new line number (Ok done) out stop (reopens, told) = record {
     goes = record { answer = None; step = record { taken = Stop; asks = stop; step = reopens }; adds = refl };
     told = told;
@@ -206,15 +206,15 @@ module _ {K : Type 0} (G : Ghosts K) where
   stopped_line old new line number (Err Write) out stop (never, stands, told, rose) = absurd never
   stopped_line old new line number (Err (Malformed n)) out stop (never, stands, told, rose) = absurd never
 
-  pub takes_stop : (old new : Seated K) (line : List ℕ) (number : ℕ) (result : Result (Unit {0}) Ending) (out : OutputState) → AreLines (line_of line) (Some Stop) → RestartsOrNot G old result new → TakesLine (desk_taker G) old line number result new out out
+  pub takes_stop : (old new : DeskState K) (line : List ℕ) (number : ℕ) (result : Result (Unit {0}) Ending) (out : OutputState) → AreLines (line_of line) (Some Stop) → RestartsOrNot G old result new → TakesLine (desk_taker G) old line number result new out out
   takes_stop old new line number result out lines restarts = stopped_line old new line number result out (lines_stop line lines) restarts
 
   -- ---- What fails no more.
 
-  pub served_steady : (old new : Seated K) (asked : Parsed) (answer : Answer) → steps.Handles (DeskTakes G) old asked answer new → G.fails_no_more old.keeper → DeskKeepsSteady G.fails_no_more G.faults old.keeper new.keeper
+  pub served_steady : (old new : DeskState K) (asked : Parsed) (answer : Answer) → steps.Handles (DeskTakes G) old asked answer new → G.fails_no_more old.keeper → DeskKeepsSteady G.fails_no_more G.faults old.keeper new.keeper
   served_steady old new asked answer handled f = (desk_handles old new asked answer handled).1.steady f
 
-  pub asked_steady : (old new : Seated K) (line : List ℕ) (read : Parsed) (result : Result (Unit {0}) Ending) (before now : OutputState) → AreLines (line_of line) (Some (Asks read)) → ((asked : Parsed) → IsReading asked read → ServesOrNot G old asked result new before now)
+  pub asked_steady : (old new : DeskState K) (line : List ℕ) (read : Parsed) (result : Result (Unit {0}) Ending) (before now : OutputState) → AreLines (line_of line) (Some (Asks read)) → ((asked : Parsed) → IsReading asked read → ServesOrNot G old asked result new before now)
       → ((asked : Parsed) → IsReading asked read → G.fails_no_more old.keeper → DeskKeepsSteady G.fails_no_more G.faults old.keeper new.keeper) → G.fails_no_more old.keeper → LineKeepsSteady (G.fails_no_more new.keeper) (G.faults old.keeper) (G.faults new.keeper) result
   asked_steady old new line read (Ok done) before now lines serves steady f = let (asked, is, reading) = lines_ask line read lines in steady asked reading f
   asked_steady old new line read (Err Write) before now lines serves steady f = let (asked, is, reading) = lines_ask line read lines in (steady asked reading f, λ e. absurd (cc))

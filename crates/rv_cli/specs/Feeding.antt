@@ -6,7 +6,7 @@ use Rattle.rv_base.specs.Outside.{InputState, OutputState}
 use Rattle.rv_base.specs.Writes.{AppendsFront}
 use Rattle.rv_keeper.specs.declared.keeper.Keeper.{Ghosts}
 use Rattle.rv_history.specs.Served.{Served}
-use Rattle.rv_desk.specs.Seated.{DeskKeeps, IsSoundDesk, Seated, served}
+use Rattle.rv_desk.specs.DeskStates.{DeskKeeps, IsSoundDesk, DeskState, served}
 use Rattle.rv_answering.specs.declared.answer.Answer.{Answer}
 use Rattle.rv_answering.specs.Requests.{Parsed}
 use Rattle.rv_cli.specs.declared.ending.Ending.{Ending}
@@ -23,7 +23,7 @@ IsNoStop Memory = Unit {0}
 IsNoStop ending = ⊥
 
 -- the desk stands as this state, but that its keeper may have failed since
-pub record StandsAs {K : Type 0} (faults : K → ℕ) (now : Served) (desk : Seated K) : Type 0 where
+pub record StandsAs {K : Type 0} (faults : K → ℕ) (now : Served) (desk : DeskState K) : Type 0 where
   pub book : desk.book ≡ now.book
   pub limit : desk.limit ≡ now.limit
   pub doubt : desk.doubt ≡ now.doubt
@@ -31,7 +31,7 @@ pub record StandsAs {K : Type 0} (faults : K → ℕ) (now : Served) (desk : Sea
 
 module _ {K : Type 0} (G : Ghosts K) where
   -- a server with this keeper
-  abbrev pub seat_at : Served → K → Seated K
+  abbrev pub seat_at : Served → K → DeskState K
   seat_at now keeper = record { book = now.book; limit = now.limit; doubt = now.doubt; keeper = keeper }
 
   -- A keeper that is left with this state: it keeps the book, with what is in doubt, which are sound; and its count of faults is not below
@@ -46,7 +46,7 @@ module _ {K : Type 0} (G : Ghosts K) where
   RoseAt = RoseFor G.tells G.faults
 
   -- a desk as one that takes lines
-  abbrev pub desk_taker : Taker (Seated K)
+  abbrev pub desk_taker : Taker (DeskState K)
   desk_taker = record {
     lines = served_lines;
     state = served G.faults;
@@ -57,7 +57,7 @@ module _ {K : Type 0} (G : Ghosts K) where
   }
 
   -- a request is answered by a step, and its answer written, or only a front of it
-  abbrev pub ServesOrNot : Seated K → Parsed → Result (Unit {0}) Ending → Seated K → OutputState → OutputState → Type 0
+  abbrev pub ServesOrNot : DeskState K → Parsed → Result (Unit {0}) Ending → DeskState K → OutputState → OutputState → Type 0
   ServesOrNot old asked (Ok done) new before now =
       ((answer : Answer) × TakesStep (G.tells new.keeper) (served G.faults old) asked answer (served G.faults new) × Appends before.written now.written (text_of answer)) × OutputStays before now × (G.tells new.keeper → G.tells old.keeper)
   ServesOrNot old asked (Err Write) new before now =
@@ -65,15 +65,15 @@ module _ {K : Type 0} (G : Ghosts K) where
   ServesOrNot old asked (Err ending) new before now = ⊥
 
   -- a stop: the desk is open again; or it is not, and stands as it stood
-  abbrev pub Restarts : Seated K → Seated K → Type 0
+  abbrev pub Restarts : DeskState K → DeskState K → Type 0
   Restarts old new = Reopens (G.tells new.keeper) (served G.faults old) (served G.faults new) × (G.tells new.keeper → G.tells old.keeper)
 
-  abbrev pub RestartsOrNot : Seated K → Result (Unit {0}) Ending → Seated K → Type 0
+  abbrev pub RestartsOrNot : DeskState K → Result (Unit {0}) Ending → DeskState K → Type 0
   RestartsOrNot old (Ok done) new = Restarts old new
   RestartsOrNot old (Err ending) new = IsNoStop ending × StandsAs G.faults (served G.faults old) new × (G.tells new.keeper → G.tells old.keeper) × RoseAt ending (G.faults old.keeper) new.keeper
 
 -- how the lines end, and with which keeper
-pub record FeedsWith {K : Type 0} (G : Ghosts K) (first : Seated K) (input input' : InputState) (output output' : OutputState) (ended : Ending × K) : Type 0 where
+pub record FeedsWith {K : Type 0} (G : Ghosts K) (first : DeskState K) (input input' : InputState) (output output' : OutputState) (ended : Ending × K) : Type 0 where
   pub now : Served
   pub feeds : Feeds served_lines (G.tells ended.1) (served G.faults first) now input input' output output' ended.0
   pub left : IsLeftWith G now ended.1

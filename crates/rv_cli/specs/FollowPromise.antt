@@ -12,7 +12,7 @@ use Rattle.rv_net.specs.declared.conn.Conn.{Conn}
 use Rattle.rv_net.specs.declared.listen.Listen.{Ghosts as ListenGhosts}
 use Rattle.rv_net.specs.declared.net.Net.{Ghosts as NetGhosts}
 use Rattle.rv_net.specs.declared.wanted.Wanted.{Wanted}
-use Rattle.rv_following.specs.FollowLaws.{beginning}
+use Rattle.rv_following.specs.FollowProperties.{beginning}
 use Rattle.rv_following.specs.FollowSteps.{Following}
 use Rattle.rv_cli.specs.declared.ending.Ending.{Ending}
 use Rattle.rv_cli.specs.declared.ending.Ending.TheVariants.{Done, Keeper, Damaged, Write}

@@ -1,5 +1,4 @@
 -- A follower as one that takes lines.
-use Rattle.std.proofs.Common.{refl}
 use Rattle.std.specs.Prelude.{◌≡◌, Option, Some, None, Ok, Err}
 use Rattle.rv_answering.specs.declared.answer.Answer.{Answer}
 use Rattle.rv_standby.specs.declared.take_fault.TakeFault.TheVariants as faults
@@ -7,7 +6,7 @@ use Rattle.rv_following.specs.declared.follow_line.FollowLine.{FollowLine}
 use Rattle.rv_following.specs.FollowLines.{follow_line_of}
 use Rattle.rv_following.specs.FollowSteps.{Following, Follows}
 use Rattle.rv_cli.specs.LineRuns.{Lines}
-use Rattle.rv_cli.specs.LineTaking.{Taker, TakesLater}
+use Rattle.rv_cli.specs.LineTaking.{Taker}
 use Rattle.rv_cli.specs.Texts.{text_of}
 
 -- a line that is not of the form, or may not come next
@@ -39,10 +38,3 @@ follower_taker = record {
   fails_no_more = λ follower. Unit {0};
   Stands = λ state follower. follower ≡ state;
 }
-
--- what a line does is the same whether what is kept is told or not
-pub follower_takes_later : (old new : Following) → (Unit {0} → Unit {0}) → TakesLater follow_lines (Unit {0}) (Unit {0})
-follower_takes_later old new before state state' line answer takes = takes
-
-pub follower_stands : (follower : Following) → follower_taker.Stands follower follower
-follower_stands follower = refl

@@ -16,7 +16,7 @@ use Rattle.rv_book.specs.Entries.{last_in}
 use Rattle.rv_history.specs.Served.{Served, IsSound, MayStand, Settles, TakesTurn}
 use Rattle.rv_history.specs.Closing.{GoesOnFrom}
 use Rattle.rv_history.specs.Replay.{IsReplay}
-use Rattle.rv_history.specs.Laws.{act_ids, look_orders, IsEntered, ReplyShows}
+use Rattle.rv_history.specs.Properties.{act_ids, look_orders, IsEntered, ReplyShows}
 use Rattle.rv_keeper.specs.declared.loaded.Loaded.{Loaded}
 use Rattle.rv_keeper.specs.Stores.{TakesUp}
 use Rattle.rv_keeper.specs.Crashes.{LeavesMore}
@@ -26,7 +26,7 @@ use Rattle.rv_store.specs.Opening.{MayOpen, IsDamaged, IsSoundBook}
 use Rattle.rv_store.specs.StoreCells.{IsKeptWith}
 use Rattle.rv_report.specs.Lists.{lists_text}
 use Rattle.rv_report.specs.Activity.{activity_text}
-use Rattle.rv_import.specs.Views.{IsView, view_text}
+use Rattle.rv_csv.specs.Views.{IsView, view_text}
 use Rattle.rv_answering.specs.declared.request.Request.TheVariants.{Pull, Push}
 use Rattle.rv_answering.specs.declared.answer.Answer.{Answer}
 use Rattle.rv_answering.specs.declared.answer.Answer.TheVariants.{Pulled, Pushed, Refused}
@@ -53,7 +53,7 @@ use Rattle.rv_wire.specs.declared.error_body.ErrorBody.TheVariants as errors
 use Rattle.rv_answering.specs.Steps as steps
 -- A pull reads at most as many rows and clients as the view at its base and the view now have: a clause of `pull` of a desk and of
 -- `turn_pull` of a room, and of `take_counted` and `turn_counted`, by which lines and requests are answered.
-pub use Rattle.rv_history.specs.Reading.{pull_entries, turn_entries}
+pub use Rattle.rv_history.specs.Reading.{pull_steps, turn_steps}
 
 -- ---- What is answered.
 

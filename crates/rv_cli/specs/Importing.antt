@@ -12,7 +12,7 @@ use Rattle.rv_turns.specs.declared.outcome.Outcome.{Outcome}
 use Rattle.rv_wire.specs.Answers.{pull_json}
 use Rattle.rv_history.specs.Served.{Served, TakesTurn}
 use Rattle.rv_doubt.specs.Kept.{KeepsBook}
-use Rattle.rv_desk.specs.Seated.{DeskTakes, IsSoundDesk, Seated}
+use Rattle.rv_desk.specs.DeskStates.{DeskTakes, IsSoundDesk, DeskState}
 use Rattle.rv_import.specs.Importing.{Imports, import_text}
 use Rattle.rv_import.specs.declared.import_end.ImportEnd.{ImportEnd}
 use Rattle.rv_import.specs.declared.import_end.ImportEnd.TheVariants as ends
@@ -77,8 +77,8 @@ module _ (c : StoreChange) where
       ⊎ ((ending : ImportEnding) × (status ≡ import_status ending) × HasImported user name input input' output output' ending)
 
 -- what came of the input at a desk, which is sound, and the keeper that is left
-pub record ImportsWith {K : Type 0} (G : Ghosts K) (old : Seated K) (user name : List ℕ) (before after : InputState) (told : Result ImportEnd InputFault × K) : Type 0 where
-  pub new : Seated K
+pub record ImportsWith {K : Type 0} (G : Ghosts K) (old : DeskState K) (user name : List ℕ) (before after : InputState) (told : Result ImportEnd InputFault × K) : Type 0 where
+  pub new : DeskState K
   pub imports : ImportsInput (DeskTakes G) user name old before after told.0 new
   pub keeper : told.1 ≡ new.keeper
   pub kept : KeepsBook G new.keeper new.book new.doubt

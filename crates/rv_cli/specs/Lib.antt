@@ -6,6 +6,7 @@ pub mod LineRunLaws
 pub mod Headline
 pub mod Feeding
 pub mod Following
+pub mod FollowingLaws
 pub mod RunLaws
 pub mod TroubleLaws
 pub mod Storing

@@ -6,7 +6,7 @@ use Rattle.rv_base.specs.Outside.{OutputState}
 use Rattle.rv_base.specs.Writes.{AppendsFront}
 use Rattle.rv_keeper.specs.declared.keeper.Keeper.{Ghosts}
 use Rattle.rv_history.specs.Served.{Served}
-use Rattle.rv_desk.specs.Seated.{Seated, served}
+use Rattle.rv_desk.specs.DeskStates.{DeskState, served}
 use Rattle.rv_answering.specs.declared.answer.Answer.{Answer}
 use Rattle.rv_answering.specs.declared.line.Line.{Line}
 use Rattle.rv_cli.specs.declared.ending.Ending.{Ending}
@@ -16,7 +16,7 @@ use Rattle.rv_cli.specs.Headline.{TakesLine}
 use Rattle.rv_cli.specs.Feeding.{IsLeftWith}
 
 -- the answer to one line, and the keeper that is left
-pub record Replies {K : Type 0} (G : Ghosts K) (old : Seated K) (line : Line) (told : Answer × K) : Type 0 where
+pub record Replies {K : Type 0} (G : Ghosts K) (old : DeskState K) (line : Line) (told : Answer × K) : Type 0 where
   pub new : Served
   pub step : TakesLine (G.tells told.1) (served G.faults old) line (Some told.0) new
   pub left : IsLeftWith G new told.1

@@ -1,7 +1,7 @@
 -- Laws of runs of a server: what is told later was told before, so a run is one of what is told later.
 use Rattle.std.proofs.Common.{ℕ, List, Option, Some, None, refl, arith}
 use Rattle.rv_history.specs.Served.{Served}
-use Rattle.rv_desk.specs.Seated.{Seated, served}
+use Rattle.rv_desk.specs.DeskStates.{DeskState, served}
 use Rattle.rv_answering.specs.declared.answer.Answer.{Answer}
 use Rattle.rv_answering.specs.declared.line.Line.{Line}
 use Rattle.rv_answering.specs.declared.line.Line.TheVariants.{Asks, Stop}
@@ -28,8 +28,8 @@ run_later Told Now then = line_runs.run_later served_lines Told Now (takes_later
 
 -- ---- Of a desk that takes lines.
 
-pub desk_takes_later : {K : Type 0} (tells : K → Type 0) (old new : Seated K) → (tells new.keeper → tells old.keeper) → TakesLater served_lines (tells old.keeper) (tells new.keeper)
+pub desk_takes_later : {K : Type 0} (tells : K → Type 0) (old new : DeskState K) → (tells new.keeper → tells old.keeper) → TakesLater served_lines (tells old.keeper) (tells new.keeper)
 desk_takes_later tells old new then = takes_later (tells old.keeper) (tells new.keeper) then
 
-pub desk_stands : {K : Type 0} (faults : K → ℕ) (desk : Seated K) → StandsAs faults (served faults desk) desk
+pub desk_stands : {K : Type 0} (faults : K → ℕ) (desk : DeskState K) → StandsAs faults (served faults desk) desk
 desk_stands faults desk = record { book = refl; limit = refl; doubt = refl; later = omega arith }

@@ -16,7 +16,7 @@ use Rattle.rv_accounts.specs.File.{AccountsServed, file_in}
 use Rattle.rv_accounts.specs.declared.fault.AccountsFault.{AccountsFault}
 use Rattle.rv_book.specs.Book.{Book, size, Extends}
 use Rattle.rv_history.specs.Served.{Served, IsSound}
-use Rattle.rv_desk.specs.Seated.{Seated, served}
+use Rattle.rv_desk.specs.DeskStates.{DeskState, served}
 use Rattle.rv_answering.specs.declared.answer.Answer.{Answer}
 use Rattle.rv_answering.specs.declared.answer.Answer.TheVariants.{Pulled}
 use Rattle.rv_answering.specs.Requests.{Parsed}
@@ -27,7 +27,7 @@ use Rattle.rv_net.specs.declared.wanted.Wanted.{Wanted}
 use Rattle.rv_words.specs.declared.serve_options.ServeOptions.{ServeOptions}
 use Rattle.rv_room.specs.declared.view.SeatView.{SeatView}
 use Rattle.rv_room.specs.Views.{newcomer}
-use Rattle.rv_serve.specs.Laws.{turns_of}
+use Rattle.rv_serve.specs.Properties.{turns_of}
 use Rattle.rv_workers.specs.Serving.{EachServes, IsServed, ServesAtDesk, ServesTogether}
 use Rattle.rv_cli.specs.declared.ending.Ending.{Ending}
 use Rattle.rv_cli.specs.declared.serve_ending.ServeEnding.{ServeEnding}
@@ -97,7 +97,7 @@ pub record NetServes {L P : Type 0} (Told : Type 0) (tells : L → Type 0) (poke
 
 -- The net was served at a desk: its listeners side by side, as many of each kind as the options say.
 module _ {K : Type 0} (keeper : Ghosts K) (n : Network) where
-  abbrev pub IsNetServed : ServeOptions → n.Net → n.Net → AccountsServed → Seated K → Seated K → Type 0
+  abbrev pub IsNetServed : ServeOptions → n.Net → n.Net → AccountsServed → DeskState K → DeskState K → Type 0
   IsNetServed options before after accounts first now =
       NetServes (n.net.tells after) n.listen.tells n.pokes.tells
       (λ given poked returned poked_back. ServesAtDesk keeper n.listen n.source n.sink n.pokes n.link accounts first given poked now returned poked_back)
@@ -153,11 +153,11 @@ module _ {P K N : Type 0} (place : PlaceGhosts P K) (G : Ghosts K) (faults : N �
 
   -- The net was served, and the store keeps the book that is left, which is lawful. Where the place tells, so did the desk's keeper to
   -- the end.
-  pub record HasServed (Serves : AccountsServed → Seated K → Seated K → Type 0) (output output' : OutputState) (ending : ServeEnding) : Type 0 where
+  pub record HasServed (Serves : AccountsServed → DeskState K → DeskState K → Type 0) (output output' : OutputState) (ending : ServeEnding) : Type 0 where
     pub accounts : AccountsServed
     pub says : FileSays place name old new (Ok accounts)
-    pub first : Seated K
-    pub now : Seated K
+    pub first : DeskState K
+    pub now : DeskState K
     pub begins : Begins (change place store old new) (served G.faults first)
     pub serves : Serves accounts first now
     pub sound : IsSound (served G.faults now)
@@ -166,7 +166,7 @@ module _ {P K N : Type 0} (place : PlaceGhosts P K) (G : Ghosts K) (faults : N �
     pub entries : WritesEntries now.book output output' ending
 
   -- the status is that of an ending, and the run ended so
-  abbrev pub RunsServe : (AccountsServed → Seated K → Seated K → Type 0) → OutputState → OutputState → ℕ → Type 0
+  abbrev pub RunsServe : (AccountsServed → DeskState K → DeskState K → Type 0) → OutputState → OutputState → ℕ → Type 0
   RunsServe Serves output output' status = (ending : ServeEnding) × (status ≡ serve_status ending)
       × (HasRefused output output' ending ⊎ HasNoStore output output' ending ⊎ HasNoNet output output' ending ⊎ HasServed Serves output output' ending)
 
@@ -207,8 +207,8 @@ module _ {K L I O : Type 0} (G : Ghosts K) (listen : ListenGhosts L I O) (source
   turns_served first (given ∷ givens) (last ∷ lasts) [] each = []
 
   -- something holds of all that was asked, where the desk was opened as the first and closed as the last
-  abbrev pub OfAllServed : (Seated K → Seated K → Parsed × Answer → Type 0) → Type 0
-  OfAllServed Holds = (opened now : Seated K) (givens backs : List L) (together : ServesTogether G Serves opened givens now backs)
+  abbrev pub OfAllServed : (DeskState K → DeskState K → Parsed × Answer → Type 0) → Type 0
+  OfAllServed Holds = (opened now : DeskState K) (givens backs : List L) (together : ServesTogether G Serves opened givens now backs)
       → AllByRecursion (Holds opened now) (turns_served (newcomer 1 opened) givens together.views backs together.serves)
 
   -- Each turn stands in the book at the end.
@@ -230,4 +230,4 @@ module _ {K L I O : Type 0} (G : Ghosts K) (listen : ListenGhosts L I O) (source
   -- The book at the end goes on from the first, each client's acts in it have the ids 1, 2, 3 and so on, and the orders of each group's
   -- looks rise.
   abbrev pub ServedBooksAreLawful : Type 0
-  ServedBooksAreLawful = (opened now : Seated K) (givens backs : List L) → ServesTogether G Serves opened givens now backs → IsSound (served G.faults now) → IsLawfulRun (Unit {0}) (served G.faults opened) (served G.faults now)
+  ServedBooksAreLawful = (opened now : DeskState K) (givens backs : List L) → ServesTogether G Serves opened givens now backs → IsSound (served G.faults now) → IsLawfulRun (Unit {0}) (served G.faults opened) (served G.faults now)

@@ -12,7 +12,7 @@ use Rattle.rv_cli.specs.declared.serve_ending.ServeEnding.{ServeEnding}
 use Rattle.rv_cli.specs.declared.serve_ending.ServeEnding.TheVariants.{Done, BadAccounts, TwiceAccounts, NotOpened, Net, Memory, Write}
 use Rattle.rv_cli.specs.Texts.{serve_text}
 use Rattle.rv_cli.specs.Headline.{WritesOnly}
-use Rattle.rv_desk.specs.Seated.{Seated}
+use Rattle.rv_desk.specs.DeskStates.{DeskState}
 use Rattle.rv_cli.specs.Running.{network}
 use Rattle.rv_cli.specs.Serving.{FileSays, HasNoAccounts, IsNetServed, pokes_wanted}
 use Rattle.rv_base.specs.declared.outside.Source.{Ghosts as SourceGhosts}
@@ -63,7 +63,7 @@ abbrev pub MayWantPokes : ServeOptions → Option Wanted → Option Wanted → T
 MayWantPokes options before now = (now ≡ before) ⊎ ((0 < options.pokes) × (now ≡ Some (pokes_wanted options)))
 
 -- The net was served at a desk, or nothing was served and the desk is as it was.
-abbrev pub NetResult : {K : Type 0} → Type 0 → (K → Type 0) → ℕ → ℕ → Seated K → Seated K → Result (Unit {0}) Fault → Type 0
+abbrev pub NetResult : {K : Type 0} → Type 0 → (K → Type 0) → ℕ → ℕ → DeskState K → DeskState K → Result (Unit {0}) Fault → Type 0
 NetResult Served kept_tells before after old new (Ok done) = Served × (kept_tells new.keeper → kept_tells old.keeper) × (after ≡ before)
 NetResult Served kept_tells before after old new (Err outside.Failed) = (new ≡ old) × Rose before after
 NetResult Served kept_tells before after old new (Err outside.Memory) = new ≡ old
@@ -85,6 +85,6 @@ WritesServed (Err outside.Memory) entries old new ending = (ending ≡ Memory) �
 
 -- The listeners of a net were served side by side at a desk, with these accounts, as the options say.
 module _ {K N L P I O C : Type 0} (keeper : KeeperGhosts K) (net : NetGhosts N L P I O C) (listen : ListenGhosts L I O) (source : SourceGhosts I) (sink : SinkGhosts O) (pokes : PokeListenGhosts P C) (link : LinkGhosts C) where
-  abbrev pub ServesNet : AccountsServed → ServeOptions → N → N → Seated K → Seated K → Result (Unit {0}) Fault → Type 0
+  abbrev pub ServesNet : AccountsServed → ServeOptions → N → N → DeskState K → DeskState K → Result (Unit {0}) Fault → Type 0
   ServesNet accounts options old new desk now result =
       NetResult (IsNetServed keeper (network net listen source sink pokes link) options old new accounts desk now) keeper.tells (net.faults old) (net.faults new) desk now result

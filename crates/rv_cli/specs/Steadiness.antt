@@ -2,7 +2,7 @@
 -- refused to it.
 use Rattle.std.specs.Prelude.{ℕ, ◌≡◌, Result, Ok, Err}
 use Rattle.rv_base.specs.Causes.{Rose}
-use Rattle.rv_desk.specs.Seated.{Seated}
+use Rattle.rv_desk.specs.DeskStates.{DeskState}
 use Rattle.rv_cli.specs.declared.ending.Ending.{Ending}
 use Rattle.rv_cli.specs.declared.ending.Ending.TheVariants.{Keeper, Read, Write}
 use Rattle.rv_cli.specs.declared.import_ending.ImportEnding.{ImportEnding}
@@ -51,7 +51,7 @@ LineKeepsSteady steady before now (Ok done) = steady × (now ≡ before)
 LineKeepsSteady steady before now (Err ending) = (steady × (now ≡ before)) × (ending ≡ Keeper → ⊥)
 
 -- the same of a store's desk, whose keeper is new, or of why there is none
-abbrev pub DeskIsSteady : {K : Type 0} → (K → Type 0) → (K → ℕ) → Result (Seated K) Ending → Type 0
+abbrev pub DeskIsSteady : {K : Type 0} → (K → Type 0) → (K → ℕ) → Result (DeskState K) Ending → Type 0
 DeskIsSteady fails_no_more faults (Ok desk) = fails_no_more desk.keeper × (faults desk.keeper ≡ 0)
 DeskIsSteady fails_no_more faults (Err ending) = ending ≡ Keeper → ⊥
 

@@ -2,7 +2,8 @@
 use Rattle.std.proofs.Common.{◌≡◌, ℕ, ◌≤◌, List, [], ◌∷◌, Bool, false, Option, Some, None, Ok, Err, refl, sym, ap, subst, arith, inl, inr}
 use Rattle.std.specs.List.{AllByRecursion}
 use Rattle.std.specs.Option.{MatchOption}
-use Rattle.rv_base.specs.Causes.{Rose, rose_before}
+use Rattle.rv_base.specs.Causes.{Rose}
+use Rattle.rv_base.specs.CauseLaws.{rose_before}
 use Rattle.rv_wire.specs.declared.fault.WireFault.{WireFault}
 use Rattle.rv_wire.specs.Errors.{fault_error}
 use Rattle.rv_book.specs.Book.{Book}
@@ -16,7 +17,7 @@ use Rattle.rv_answering.specs.declared.line.Line.{Line}
 use Rattle.rv_answering.specs.declared.line.Line.TheVariants.{Asks, Stop}
 use Rattle.rv_answering.specs.Requests.{Parsed}
 use Rattle.rv_answering.specs.Steps.{RefusesWith, answer_of, no_memory, push_answer}
-use Rattle.rv_serve.specs.Laws.{RunsTurns}
+use Rattle.rv_serve.specs.Properties.{RunsTurns}
 use Rattle.rv_cli.specs.Headline.{Handles, TakesLine, Run, AnswersWith, AnswersTrouble}
 use Rattle.rv_turns.specs.Asks.{Sender, Ask}
 use Rattle.rv_turns.specs.Pushing.{Pushes}

@@ -9,9 +9,6 @@ use rv_desk::Desk;
 use rv_keeper::Keeper;
 use std::alloc::Global;
 
-/// The greatest length of the book.
-pub(crate) const BOOK_LIMIT: u32 = 4_294_967_295;
-
 /// Takes the lines of the input, each as it was read, and gives the ending and the keeper.
 pub(crate) fn feed<K: Keeper, S: Source, O: Sink>(
     alloc: Global,

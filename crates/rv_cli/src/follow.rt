@@ -8,12 +8,12 @@ ghost use Rattle.rv_cli.specs.ServingSteps.{count_text};
 ghost use Rattle.rv_cli.specs.Steadiness.{OutputIsSteady};
 
 use crate::ending::Ending;
-use crate::feed::BOOK_LIMIT;
 use crate::lines::take_lines;
 use crate::serve::tell;
 use crate::serve_ending::ServeEnding;
 use crate::texts::{write_count, write_ending};
 use rv_base::{Failed, Fault, Sink, Source};
+use rv_book::BOOK_LIMIT;
 use rv_following::Follower;
 use rv_net::{Accepted, Conn, Listen, Net};
 use std::alloc::Global;

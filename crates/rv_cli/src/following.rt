@@ -44,7 +44,7 @@ fn take_line<O: Sink>(
 }
 
 impl LineTaker for Follower {
-    ghost use Rattle.rv_cli.specs.Following.{follower_stands, follower_takes_later};
+    ghost use Rattle.rv_cli.specs.FollowingLaws.{follower_stands, follower_takes_later};
 
     ghost taker = { follower_taker };
 

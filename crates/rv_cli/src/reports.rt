@@ -12,9 +12,8 @@ use crate::store::{check_store, open_existing_desk, refuse_opening};
 use crate::texts::{write_count, write_ending};
 use rv_base::{Bytes, Failed, Fault, Memory, Sink, User, write_all};
 use rv_book::Book;
-use rv_import::export_text;
 use rv_keeper::Place;
-use rv_report::{activity_text, lists_text};
+use rv_report::{activity_text, export_text, lists_text};
 use rv_standby::ship;
 use std::alloc::Global;
 

@@ -8,9 +8,9 @@ ghost use Rattle.rv_cli.specs.Storing.{OpensKept, OpensStore, ToldBefore};
 ghost use Rattle.rv_cli.specs.Reporting.{ChecksKept, ChecksStore};
 
 use crate::ending::Ending;
-use crate::feed::BOOK_LIMIT;
 use crate::texts::write_ending;
 use rv_base::Sink;
+use rv_book::BOOK_LIMIT;
 use rv_desk::Desk;
 use rv_keeper::Place;
 use rv_report::{CheckAnswer, check};

@@ -11,7 +11,7 @@ use Rattle.rv_state.specs.Ready.{IsPrepared, NextFits, next_of}
 use Rattle.rv_state.specs.Standing.{Standing}
 use Rattle.rv_store.specs.Opening.{IsDamaged, IsSoundBook, MayOpen}
 use Rattle.rv_store.specs.OpeningLaws.{opens-not_damaged}
-use Rattle.rv_store.specs.StoreBooks.{doubt_sound, settled_unique, sound-told}
+use Rattle.rv_store.specs.StoreBookLaws.{doubt_sound, settled_unique, sound-told}
 use Rattle.rv_store.specs.StoreCells.{IsKeptWith}
 use Rattle.rv_doubt.specs.Kept.{AreInStep}
 

@@ -1,4 +1,4 @@
-pub mod Seated
+pub mod DeskStates
 pub mod Opened
 pub mod Stepping
 pub mod TurnLaws

@@ -10,7 +10,7 @@ use Rattle.rv_record.specs.declared.fault.Damage.{Damage}
 use Rattle.rv_store.specs.Opening.{MayOpen, IsDamaged}
 use Rattle.rv_desk.specs.declared.open_fault.OpenFault.{OpenFault}
 use Rattle.rv_desk.specs.declared.open_fault.OpenFault.TheVariants.{Keeper, Damaged, Memory}
-use Rattle.rv_desk.specs.Seated.{Seated}
+use Rattle.rv_desk.specs.DeskStates.{DeskState}
 
 -- This was loaded: the cells stand in order, and where the keeper tells, it is the one thing that was held.
 pub record WasLoaded (Tells : Type 0) (Held : Loaded → Type 0) (loaded : Loaded) : Type 0 where
@@ -24,7 +24,7 @@ IsLoaded Leaves loaded = (left : Option Loaded) → Leaves left → left ≡ Som
 module _ {K : Type 0} (G : Ghosts K) where
   -- Nothing is in doubt, and the book is kept as what the keeper's load answered; a crash leaves of a keeper that is honest what it might before,
   -- or what was held; the keeper's count of faults stays.
-  pub record Opens (limit : ℕ) (before : K) (desk : Seated K) : Type 0 where
+  pub record Opens (limit : ℕ) (before : K) (desk : DeskState K) : Type 0 where
     pub loaded : Loaded
     pub loads : G.loads before (Ok loaded) desk.keeper
     pub was : WasLoaded (G.tells desk.keeper) (G.holds before) loaded
@@ -63,18 +63,18 @@ module _ {K : Type 0} (G : Ghosts K) where
   IsRefused limit before (Damaged damage) now = IsDamagedIn limit before now damage
   IsRefused limit before Memory now = G.faults now ≡ G.faults before
 
-  abbrev pub OpensOrNot : ℕ → K → Result (Seated K) (OpenFault × K) → Type 0
+  abbrev pub OpensOrNot : ℕ → K → Result (DeskState K) (OpenFault × K) → Type 0
   OpensOrNot limit before (Ok desk) = Opens limit before desk
   OpensOrNot limit before (Err refused) = IsRefused limit before refused.0 refused.1 × IsLeft before refused.1
 
   -- A desk opens again from what its keeper holds: where that tells, what was in doubt is settled by it.
-  pub record OpensAgain (old new : Seated K) : Type 0 where
+  pub record OpensAgain (old new : DeskState K) : Type 0 where
     pub opens : Opens old.limit old.keeper new
     pub settled : G.tells new.keeper → Settles old.book old.doubt new.book
 
   -- A desk does not open again: why is as where a desk is opened, but that one whose keeper tells is not damaged. It is as it was, with its
   -- keeper as that was left.
-  pub record StaysAsItWas (old : Seated K) (fault : OpenFault) (new : Seated K) : Type 0 where
+  pub record StaysAsItWas (old : DeskState K) (fault : OpenFault) (new : DeskState K) : Type 0 where
     pub why : IsRefused old.limit old.keeper fault new.keeper
     pub sound : (damage : Damage) → fault ≡ Damaged damage → G.tells new.keeper → ⊥
     pub left : IsLeft old.keeper new.keeper
@@ -82,12 +82,12 @@ module _ {K : Type 0} (G : Ghosts K) where
     pub limit : new.limit ≡ old.limit
     pub doubt : new.doubt ≡ old.doubt
 
-  abbrev pub ReopensOrNot : Seated K → Result (Unit {0}) OpenFault → Seated K → Type 0
+  abbrev pub ReopensOrNot : DeskState K → Result (Unit {0}) OpenFault → DeskState K → Type 0
   ReopensOrNot old (Ok done) new = OpensAgain old new
   ReopensOrNot old (Err fault) new = StaysAsItWas old fault new
 
   -- the same of what was loaded: the keeper is as it was
-  abbrev pub OpensLoaded : ℕ → Loaded → K → Result (Seated K) (OpenFault × K) → Type 0
+  abbrev pub OpensLoaded : ℕ → Loaded → K → Result (DeskState K) (OpenFault × K) → Type 0
   OpensLoaded limit loaded keeper (Ok desk) = MayOpen limit desk.book loaded × (desk ≡ record { book = desk.book; limit = limit; doubt = None; keeper = keeper })
   OpensLoaded limit loaded keeper (Err (Keeper, now)) = ⊥
   OpensLoaded limit loaded keeper (Err (Damaged damage, now)) = IsDamaged limit loaded damage × (now ≡ keeper)

@@ -1,7 +1,7 @@
 -- A turn is what was settled, and then a step; or what could not be settled.
 use Rattle.std.proofs.Common.{◌≡◌, ℕ, Option, Some, None, Ok, Err, refl, ap, ◌∙◌, subst, arith, inl, ⊎_elim}
 use Rattle.std.specs.Prelude.{IsSome}
-use Rattle.rv_base.specs.Causes.{rose_before}
+use Rattle.rv_base.specs.CauseLaws.{rose_before}
 use Rattle.rv_book.specs.Book.{Book}
 use Rattle.rv_turns.specs.Asks.{Ask}
 use Rattle.rv_turns.specs.Outcomes.{trouble_of}

@@ -1,7 +1,7 @@
 ghost use Rattle.std.specs.Prelude.{◌≡◌, ◌<◌};
 ghost use Rattle.rv_keeper.specs.Cells.{AreCells};
 ghost use Rattle.rv_desk.specs.Opened.{IsLoaded, OpensOrNot, OpensLoaded, ReopensOrNot};
-ghost use Rattle.rv_desk.specs.Seated.{DeskTakes};
+ghost use Rattle.rv_desk.specs.DeskStates.{DeskTakes};
 ghost use Rattle.rv_turns.specs.Asks.{ask_of};
 
 use crate::open_fault::OpenFault;
@@ -33,9 +33,9 @@ impl<K: Keeper> Model for Desk<K> {
     ghost use Rattle.std.specs.Prelude.{option_map};
     ghost use Rattle.rv_state.specs.Ready.{next_of};
     ghost use Rattle.rv_doubt.specs.Kept.{AreInStep, LeavesInStep};
-    ghost use Rattle.rv_desk.specs.Seated.{Seated};
+    ghost use Rattle.rv_desk.specs.DeskStates.{DeskState};
 
-    ghost Value = { Seated K };
+    ghost Value = { DeskState K };
 
     ghost view = { λ d. record { book = d.state.book; limit = d.state.limit; doubt = option_map next_of d.doubt; keeper = d.keeper } };
 
@@ -50,10 +50,10 @@ impl<K: Keeper> Desk<K> {
     ghost use Rattle.rv_history.specs.Served.{MayStand};
     ghost use Rattle.rv_keeper.specs.declared.loaded.Loaded.{Loaded};
     ghost use Rattle.rv_news.specs.Records.{AreRecords};
-    ghost use Rattle.rv_opening.specs.PageCells.{PartsFit};
+    ghost use Rattle.rv_record.specs.PageCells.{PartsFit};
     ghost use Rattle.rv_record.specs.EntryReading.{EntryFits};
     ghost use Rattle.rv_doubt.specs.Kept.{HoldsBook, KeepsBook, LeavesBook};
-    ghost use Rattle.rv_desk.specs.Seated.{DeskKeeps, IsSoundDesk};
+    ghost use Rattle.rv_desk.specs.DeskStates.{DeskKeeps, IsSoundDesk};
 
     /// The desk of the book that the keeper holds, which may grow to this length. Whatever is kept is left as it is. The refusals
     /// give the keeper back: the keeper failed, and its count of faults rose; the cells are not just those of a lawful book of at
@@ -140,8 +140,8 @@ impl<K: Keeper> Desk<K> {
         ensures sound { IsSoundDesk self }
         ensures kept { DeskKeeps K.Keeper self }
     {
-        // The book tells that it is lawful, and within its limit.
-        let _length = self.state.book().len();
+        // The book is lawful, and within its limit.
+        self.state.book().fits();
         let Desk {
             state: _state,
             doubt: _doubt,
@@ -177,7 +177,7 @@ impl<K: Keeper> Desk<K> {
 }
 
 impl<K: Keeper> Turns for Desk<K> {
-    ghost use Rattle.rv_desk.specs.Seated.{DeskTakes};
+    ghost use Rattle.rv_desk.specs.DeskStates.{DeskTakes};
 
     ghost takes = { DeskTakes K.Keeper };
 
@@ -200,7 +200,7 @@ fn take_from<K: Keeper, L: Ledger>(desk: &mut Desk<K>, asked: Asked<'_>, blank: 
 
 impl<K: Keeper> Desk<K> {
     ghost use Rattle.rv_turns.specs.Asks.{Ask, ask_of};
-    ghost use Rattle.rv_desk.specs.Seated.{DeskTakes, DeskTakesWithin};
+    ghost use Rattle.rv_desk.specs.DeskStates.{DeskTakes, DeskTakesWithin};
 
     /// Takes a turn. Of a pull each row and each client that is read of its base's record and of what is seen now is a step.
     pub fn take_counted<L: Ledger>(&mut self, asked: Asked<'_>, steps: &mut Steps<L>) -> Outcome

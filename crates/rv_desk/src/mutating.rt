@@ -5,7 +5,7 @@ ghost use Rattle.rv_history.specs.Machine.{TakesMutation};
 ghost use Rattle.rv_turns.specs.Asks.{Ask};
 ghost use Rattle.rv_doubt.specs.Keeping.{keep_trouble};
 ghost use Rattle.rv_doubt.specs.Kept.{Assures};
-ghost use Rattle.rv_desk.specs.Seated.{served};
+ghost use Rattle.rv_desk.specs.DeskStates.{served};
 ghost use Rattle.rv_desk.specs.Stepping.{HasStepped};
 
 use crate::desk::Desk;

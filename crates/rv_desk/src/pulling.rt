@@ -5,12 +5,12 @@ ghost use Rattle.rv_book.specs.declared.entry.Entry.TheVariants.{Look};
 ghost use Rattle.rv_history.specs.Groups.{Admits};
 ghost use Rattle.rv_history.specs.Lawful.{IsLawfulAfter};
 ghost use Rattle.rv_history.specs.Machine.{IsUnchanged, next_order};
-ghost use Rattle.rv_history.specs.Reading.{pull_entries};
+ghost use Rattle.rv_history.specs.Reading.{pull_steps};
 ghost use Rattle.rv_news.specs.News.{IsNews};
 ghost use Rattle.rv_turns.specs.Asks.{Ask};
 ghost use Rattle.rv_doubt.specs.Keeping.{keep_trouble};
 ghost use Rattle.rv_doubt.specs.Kept.{Assures};
-ghost use Rattle.rv_desk.specs.Seated.{served};
+ghost use Rattle.rv_desk.specs.DeskStates.{served};
 ghost use Rattle.rv_desk.specs.Stepping.{HasStepped};
 
 use crate::desk::Desk;
@@ -35,7 +35,7 @@ impl<K: Keeper> Desk<K> {
         requires settled { self.old.doubt ≡ None }
         ensures stepped { HasStepped (served K.faults self.old) (Ask.pull user.now request.now) result (served K.faults self.new) }
         ensures assured { Assures K.tells K.fails_no_more self.old.keeper (keep_trouble result) self.new.keeper }
-        ensures most { steps.new ≤ steps.old + pull_entries user.now request.now self.old.book }
+        ensures most { steps.new ≤ steps.old + pull_steps user.now request.now self.old.book }
     {
         match admits(self.state.book(), user, &request.group) {
             Admission::OfOther => Ok(Outcome::Refused(Refusal::GroupOfOther)),
@@ -56,7 +56,7 @@ impl<K: Keeper> Desk<K> {
         requires admits { Admits user.now request.now.group self.old.book }
         ensures stepped { HasStepped (served K.faults self.old) (Ask.pull user.now request.now) result (served K.faults self.new) }
         ensures assured { Assures K.tells K.fails_no_more self.old.keeper (keep_trouble result) self.new.keeper }
-        ensures most { steps.new ≤ steps.old + pull_entries user.now request.now self.old.book }
+        ensures most { steps.new ≤ steps.old + pull_steps user.now request.now self.old.book }
     {
         let Some(news) = self.state.news(user, request, steps)? else {
             return Ok(Outcome::Pulled(same_reply(self.alloc, request)?));

@@ -1,7 +1,7 @@
 // Settling what is in doubt.
 ghost use Rattle.rv_doubt.specs.Kept.{Assures, KeepsBook};
 ghost use Rattle.rv_doubt.specs.Settling.{HasSettled, IsFound, settle_trouble};
-ghost use Rattle.rv_desk.specs.Seated.{served};
+ghost use Rattle.rv_desk.specs.DeskStates.{served};
 
 use crate::desk::Desk;
 use rv_doubt::settle;

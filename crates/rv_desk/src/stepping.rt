@@ -1,10 +1,10 @@
 // Turns where nothing is in doubt.
 ghost use Rattle.std.specs.Prelude.{◌≡◌, ◌≤◌, ◌+◌, None};
-ghost use Rattle.rv_history.specs.Reading.{turn_entries};
+ghost use Rattle.rv_history.specs.Reading.{turn_steps};
 ghost use Rattle.rv_turns.specs.Asks.{ask_of};
 ghost use Rattle.rv_doubt.specs.Keeping.{keep_trouble};
 ghost use Rattle.rv_doubt.specs.Kept.{Assures, KeepsBook};
-ghost use Rattle.rv_desk.specs.Seated.{DeskTakes, served};
+ghost use Rattle.rv_desk.specs.DeskStates.{DeskTakes, served};
 ghost use Rattle.rv_desk.specs.Stepping.{HasStepped};
 
 use crate::desk::Desk;
@@ -19,11 +19,11 @@ impl<K: Keeper> Desk<K> {
     pub fn take_settled<L: Ledger>(&mut self, asked: Asked<'_>, steps: &mut Steps<L>) -> Outcome
         requires { self.old.doubt ≡ None }
         ensures turn { DeskTakes K.Keeper self.old (ask_of asked.entry) result self.new }
-        ensures most { steps.new ≤ steps.old + turn_entries (ask_of asked.entry) self.old.book }
+        ensures most { steps.new ≤ steps.old + turn_steps (ask_of asked.entry) self.old.book }
     {
         let stepped = self.step(asked, steps);
-        // The book tells that it is kept.
-        let _book = self.book();
+        // The book is kept.
+        self.book().fits();
         match stepped {
             Ok(outcome) => outcome,
             Err(Fault::Failed) => Outcome::Refused(Refusal::Trouble(Trouble::Keeper)),
@@ -36,7 +36,7 @@ impl<K: Keeper> Desk<K> {
         requires settled { self.old.doubt ≡ None }
         ensures stepped { HasStepped (served K.faults self.old) (ask_of asked.entry) result (served K.faults self.new) }
         ensures assured { Assures K.tells K.fails_no_more self.old.keeper (keep_trouble result) self.new.keeper }
-        ensures most { steps.new ≤ steps.old + turn_entries (ask_of asked.entry) self.old.book }
+        ensures most { steps.new ≤ steps.old + turn_steps (ask_of asked.entry) self.old.book }
     {
         match asked {
             Asked::Mutation {

@@ -9,7 +9,7 @@ use Rattle.serde_json.specs.Written.{compact_text}
 use Rattle.serde_json.proofs.OnLiterals.{serde_json_on_literals}
 use Rattle.rv_keeper.specs.declared.cell.Cell.{Cell}
 use Rattle.rv_record.specs.CellTexts.{AreTexts}
-use Rattle.rv_record.specs.ReadBack.{json_again}
+use Rattle.rv_record.specs.ReadBackLaws.{json_again}
 use Rattle.rv_standby.specs.Shipping.{cell_data}
 use Rattle.rv_following.specs.declared.follow_line.FollowLine.{FollowLine}
 use Rattle.rv_following.specs.declared.follow_line.FollowLine.TheVariants as lines

@@ -7,24 +7,24 @@ use Rattle.std.proofs.lemmas.List.{append-nil}
 use Rattle.rv_book.specs.declared.entry.Entry.{Entry}
 use Rattle.rv_book.specs.declared.page.Page.{Page}
 use Rattle.rv_book.specs.Book.{Book, book_from, empty_book, opening, size, with_entries, with_entry}
-use Rattle.rv_book.specs.BookWords.{size-with_entry, with_entry-more}
+use Rattle.rv_book.specs.BookWordLaws.{size-with_entry, with_entry-more}
 use Rattle.rv_book.specs.SoundPages.{IsOpening}
 use Rattle.rv_keeper.specs.declared.cell.Cell.{Cell}
 use Rattle.rv_record.specs.CellTexts.{entry_cell}
-use Rattle.rv_opening.specs.PageCells.{on_page, page_cells}
-use Rattle.rv_opening.specs.PageLaws.{page_cells-on}
+use Rattle.rv_record.specs.PageCells.{on_page, page_cells}
+use Rattle.rv_record.specs.PageLaws.{page_cells-on}
 use Rattle.rv_store.specs.Opening.{IsSoundBook}
 use Rattle.rv_store.specs.StoreCells.{entry_cells}
 use Rattle.rv_answering.specs.declared.answer.Answer.{Answer}
 use Rattle.rv_standby.specs.declared.take_fault.TakeFault.{TakeFault}
 use Rattle.rv_standby.specs.declared.take_fault.TakeFault.TheVariants as faults
 use Rattle.rv_standby.specs.Following.{Takes, TakesPage}
-use Rattle.rv_standby.specs.FollowingLaws.{LeadsTo}
+use Rattle.rv_standby.specs.FollowingProperties.{LeadsTo}
 use Rattle.rv_standby.proofs.Fronts.{entries_are_followed, pages_are_followed}
 use Rattle.rv_following.specs.declared.follow_line.FollowLine.{FollowLine}
 use Rattle.rv_following.specs.declared.follow_line.FollowLine.TheVariants as lines
 use Rattle.rv_following.specs.FollowSteps.{Following, Follows}
-use Rattle.rv_following.specs.FollowLaws.{StandsAt, TakesEach, beginning, book_says, cells_say, gathers, follows}
+use Rattle.rv_following.specs.FollowProperties.{StandsAt, TakesEach, beginning, book_says, cells_say, gathers, follows}
 
 -- the follower of a front, and the one that gathers
 abbrev at_front : ℕ → Book → Following

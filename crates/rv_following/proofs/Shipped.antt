@@ -14,15 +14,15 @@ use Rattle.rv_book.specs.declared.entry.Entry.{Entry}
 use Rattle.rv_book.specs.Book.{Book}
 use Rattle.rv_keeper.specs.declared.cell.Cell.{Cell}
 use Rattle.rv_record.specs.CellTexts.{AreTexts}
-use Rattle.rv_opening.specs.Lists.{all-append}
-use Rattle.rv_opening.specs.PageCells.{page_cells}
-use Rattle.rv_opening.specs.PageLaws.{page_cells-on}
+use Rattle.rv_record.specs.ListLaws.{all-append}
+use Rattle.rv_record.specs.PageCells.{page_cells}
+use Rattle.rv_record.specs.PageLaws.{page_cells-on}
 use Rattle.rv_store.specs.StoreCells.{entry_cells}
 use Rattle.rv_standby.specs.Shipping.{cell_data, cell_line}
 use Rattle.rv_following.specs.declared.follow_line.FollowLine.{FollowLine}
 use Rattle.rv_following.specs.declared.follow_line.FollowLine.TheVariants as lines
 use Rattle.rv_following.specs.FollowLines.{follow_line_of}
-use Rattle.rv_following.specs.FollowLaws.{AreTheLinesOf, ReadAsFirst, book_says, cells_say}
+use Rattle.rv_following.specs.FollowProperties.{AreTheLinesOf, ReadAsFirst, book_says, cells_say}
 use Rattle.rv_following.proofs.CellsRead.{cells_are_read, whole_pages_are_read}
 
 -- ---- no LF stands in the line of a cell

@@ -10,8 +10,8 @@ use Rattle.rv_wire.specs.declared.error_body.ErrorBody.TheVariants as errors
 use Rattle.rv_wire.specs.declared.fault.WireFault.{WireFault}
 use Rattle.rv_wire.specs.Errors.{fault_error}
 use Rattle.rv_keeper.specs.declared.cell.Cell.{Cell}
-use Rattle.rv_opening.specs.PageCells.{on_page}
-use Rattle.rv_opening.specs.PageReads.{IsKeptPage}
+use Rattle.rv_record.specs.PageCells.{on_page}
+use Rattle.rv_record.specs.PageReads.{IsKeptPage}
 use Rattle.rv_state.specs.Entering.{IsNext}
 use Rattle.rv_answering.specs.declared.answer.Answer.{Answer}
 use Rattle.rv_answering.specs.declared.answer.Answer.TheVariants.{Refused}

@@ -1,4 +1,4 @@
 pub mod FollowLines
 pub mod FollowReads
 pub mod FollowSteps
-pub mod FollowLaws
+pub mod FollowProperties

@@ -1,7 +1,7 @@
 // Who takes the lines of a book that is followed.
 ghost use Rattle.std.specs.Prelude.{◌≡◌, ◌<◌, []};
 ghost use Rattle.rv_book.specs.Book.{empty_book, size};
-ghost use Rattle.rv_opening.specs.PageCells.{on_page};
+ghost use Rattle.rv_record.specs.PageCells.{on_page};
 ghost use Rattle.rv_following.specs.declared.follow_line.FollowLine.{FollowLine};
 ghost use Rattle.rv_following.specs.declared.follow_line.FollowLine.TheVariants as lines;
 ghost use Rattle.rv_following.specs.FollowReads.{IsFollowLine};

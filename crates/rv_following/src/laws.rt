@@ -1,6 +1,6 @@
 //! What follows for a follower that is given the lines of a book, as contracts of functions that do nothing: a check of the crate proves
 //! them.
-ghost use Rattle.rv_following.specs.FollowLaws.{CellsAreRead, LinesAreFollowed, NoLineIsRefused, ShippedLinesAreRead, WholePagesAreRead};
+ghost use Rattle.rv_following.specs.FollowProperties.{CellsAreRead, LinesAreFollowed, NoLineIsRefused, ShippedLinesAreRead, WholePagesAreRead};
 
 /// The line of a cell whose key and body are texts is read as that cell.
 pub fn cells_are_read()

@@ -9,21 +9,21 @@ use Rattle.std.proofs.lemmas.Option.{same_Some}
 use Rattle.std.proofs.lemmas.List.Elements.{Contains-append_right}
 use Rattle.std.proofs.lemmas.Slice.Eq.{bytes_eq-Decides}
 use Rattle.rv_base.specs.Sorted.{find_by}
-use Rattle.rv_base.specs.Positions.{in_order-sorted}
+use Rattle.rv_base.specs.PositionLaws.{in_order-sorted}
 use Rattle.rv_views.specs.declared.cookie.Cookie.{Cookie}
 use Rattle.rv_views.specs.declared.cookie.Cookie.TheVariants.{Null, Named}
 use Rattle.rv_book.specs.declared.entry.Entry.{Entry}
 use Rattle.rv_book.specs.declared.entry.Entry.TheVariants.{Look}
 use Rattle.rv_book.specs.Book.{Book, client_in, clients_named, entry_at, ids, size, up_to, with_entries, Extends}
-use Rattle.rv_book.specs.BookWords.{entry_at-end, entry_at-up_to, size-with_entries, size-with_entry, up_to-all, up_to-with_entries, extends_same, extends_on}
+use Rattle.rv_book.specs.BookWordLaws.{entry_at-end, entry_at-up_to, size-with_entries, size-with_entry, up_to-all, up_to-with_entries, extends_same, extends_on}
 use Rattle.rv_book.specs.Kept.{look_of, look_at}
 use Rattle.rv_book.specs.LookLaws.{look_at-within}
 use Rattle.rv_history.specs.Bases.{base_of, base_group}
-use Rattle.rv_history.specs.Based.{base_look, base_spelled}
+use Rattle.rv_history.specs.BasedLaws.{base_look, base_spelled}
 use Rattle.rv_history.specs.Machine.{ReplyText, cookie_order}
 use Rattle.rv_history.specs.Clients.{ClientState, nothing, ClientPull, held_then, ArePulls, IsCurrent, WasSent, EachCurrent, AreSuccessive, WasSentIn, EachCurrentIn, ClientsFollow, ClientsFollowOn}
-use Rattle.rv_history.specs.Laws.{IsBaseView, known_ids}
-use Rattle.rv_history.specs.LookIds.{ids_look}
+use Rattle.rv_history.specs.Properties.{IsBaseView, known_ids}
+use Rattle.rv_history.specs.LookIdLaws.{ids_look}
 use Rattle.rv_history.specs.Patches.{client_view, key_value, apply}
 use Rattle.rv_history.specs.ReplayLaws.{each_found, rows_of-with_entry}
 use Rattle.rv_rows.specs.declared.row.Row.{Row}

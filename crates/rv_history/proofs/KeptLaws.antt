@@ -5,7 +5,7 @@ use Rattle.std.proofs.lemmas.Option.{same_Some}
 use Rattle.rv_book.specs.declared.entry.Entry.{Entry}
 use Rattle.rv_book.specs.declared.entry.Entry.TheVariants.{Act, Look, Retire}
 use Rattle.rv_book.specs.Book.{Book, book_from, last_order, size, with_entry, entry_at}
-use Rattle.rv_book.specs.BookWords.{size-with_entry, entry_at-end, extends_same}
+use Rattle.rv_book.specs.BookWordLaws.{size-with_entry, entry_at-end, extends_same}
 use Rattle.rv_turns.specs.Asks.{Sender, Ask, IsClosing}
 use Rattle.rv_turns.specs.Outcomes.{refusal_of, trouble_of}
 use Rattle.rv_turns.specs.Pushing.{Pushes}
@@ -23,10 +23,10 @@ use Rattle.rv_history.specs.Closing.{Closes, GoesOnFrom}
 use Rattle.rv_history.specs.Lawful.{IsLawfulAfter, IsLawful}
 use Rattle.rv_history.specs.Machine.{ReplyText, Step, Replies, cookie_order, next_order}
 use Rattle.rv_history.specs.Served.{Next, with_next, MayFollow, IsOf, Served, Settles, StaysInDoubt, LeavesDoubt, TurnOf, TakesTurn, MayStand, IsSound, KeepsLaw, Doubt}
-use Rattle.rv_history.specs.Based.{base_lawful, next_above}
-use Rattle.rv_history.specs.LawfulBooks.{lawful_more}
-use Rattle.rv_history.specs.SoundClosing.{closed_books_go_on}
-use Rattle.rv_history.specs.Succession.{goes_on_same, goes_on_through}
+use Rattle.rv_history.specs.BasedLaws.{base_lawful, next_above}
+use Rattle.rv_history.specs.LawfulBookLaws.{lawful_more}
+use Rattle.rv_history.specs.SoundClosingLaws.{closed_books_go_on}
+use Rattle.rv_history.specs.SuccessionLaws.{goes_on_same, goes_on_through}
 
 -- the book stays, or one entry that may stand next is entered, where there is space
 abbrev Advances : ℕ → Book → Book → Type 0

@@ -26,9 +26,9 @@ use Rattle.rv_history.specs.Bases.{base_of, base_group}
 use Rattle.rv_history.specs.Patches.{ClientView, client_view, apply}
 use Rattle.rv_history.specs.History.{is_absent, is_news, patch_since, is_among, ids_since}
 use Rattle.rv_history.specs.Machine.{ReplyText, Step, Replies, IsUnchanged, cookie_order, next_order, patch_for, ids_for, same_reply, new_reply}
-use Rattle.rv_history.specs.Laws.{IsBaseView, IsPermitted, is_clear, ClearsWithoutBase, known_ids, ReplyTells, ReplyShows}
-use Rattle.rv_history.specs.Based.{first_and, last_and}
-use Rattle.rv_history.specs.Based.{next_above}
+use Rattle.rv_history.specs.Properties.{IsBaseView, IsPermitted, is_clear, ClearsWithoutBase, known_ids, ReplyTells, ReplyShows}
+use Rattle.rv_history.specs.BasedLaws.{first_and, last_and}
+use Rattle.rv_history.specs.BasedLaws.{next_above}
 use Rattle.rv_history.specs.PatchLaws.{patch_applies, patch_anew}
 
 -- a patch shows what the user sees

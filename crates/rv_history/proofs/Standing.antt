@@ -23,11 +23,11 @@ use Rattle.rv_book.specs.SoundPages.{IsOpening}
 use Rattle.rv_history.specs.ClosingLaws.{groupless_last}
 use Rattle.rv_history.specs.GroupLaws.{bound_stays, groups_have_one_user, clients_have_one_group, group_stays}
 use Rattle.rv_history.specs.Lawful.{IsLawful}
-use Rattle.rv_history.specs.LawfulBooks.{ids_count_up, last_append}
-use Rattle.rv_history.specs.Laws.{act_ids, HasRun, IsEntered}
+use Rattle.rv_history.specs.LawfulBookLaws.{ids_count_up, last_append}
+use Rattle.rv_history.specs.Properties.{act_ids, HasRun, IsEntered}
 use Rattle.rv_history.specs.Machine.{ReplyText, Step, TakesMutation}
-use Rattle.rv_history.specs.SoundClosing.{page_act}
-use Rattle.rv_history.specs.Succession.{mutations_stay}
+use Rattle.rv_history.specs.SoundClosingLaws.{page_act}
+use Rattle.rv_history.specs.SuccessionLaws.{mutations_stay}
 use Rattle.rv_history.specs.Served.{Served, IsSound, TakesTurn}
 use Rattle.rv_history.specs.TurnLaws.{no_trouble, step_of}
 use Rattle.rv_history.proofs.KeptLaws.{turns_keep, pushes_keep, settled_lawful}

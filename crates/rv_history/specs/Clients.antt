@@ -9,7 +9,7 @@ use Rattle.rv_book.specs.Book.{Book, ids, size, Extends}
 use Rattle.rv_turns.specs.declared.pull.PullReply.{PullReply}
 use Rattle.rv_history.specs.Patches.{ClientView, client_view, apply}
 use Rattle.rv_history.specs.Machine.{ReplyText}
-use Rattle.rv_history.specs.Laws.{ReplyShows}
+use Rattle.rv_history.specs.Properties.{ReplyShows}
 
 -- What a client holds under a cookie: its view, and the last mutation ids that it was told, of which the first of a client counts.
 pub record ClientState : Type 0 where

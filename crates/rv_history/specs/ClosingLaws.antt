@@ -6,8 +6,8 @@ use Rattle.std.specs.Option.{option_map, option_map_or, option_or, is_some, IsSo
 use Rattle.std.specs.Str.{bytes_eq}
 use Rattle.std.proofs.Math.Bool.{or-false}
 use Rattle.rv_base.specs.Sorted.{find_by, sorted_by, InOrder}
-use Rattle.rv_base.specs.Arranged.{in_order-same, sorted-sorted}
-use Rattle.rv_base.specs.Positions.{in_order-sorted}
+use Rattle.rv_base.specs.ArrangedLaws.{in_order-same, sorted-sorted}
+use Rattle.rv_base.specs.PositionLaws.{in_order-sorted}
 use Rattle.std.proofs.lemmas.Option.{same_Some}
 use Rattle.rv_rows.specs.declared.row.Row.{Row}
 use Rattle.rv_rows.specs.Keys.{row_text, in_key_order}
@@ -21,7 +21,7 @@ use Rattle.rv_book.specs.Registers.{client_named, clients_of, group_named, group
 use Rattle.rv_book.specs.RegisterLaws.{client_is_named, find-info, found_client, found_group}
 use Rattle.rv_history.specs.Replay.{page_rows, rows_of, IsLastWrite, IsReplay}
 use Rattle.rv_history.specs.ReplayLaws.{all_found, each_found, last_within, stored_in_order}
-use Rattle.rv_history.specs.LawfulBooks.{last_cons}
+use Rattle.rv_history.specs.LawfulBookLaws.{last_cons}
 use Rattle.rv_history.specs.Closing.{SumsUp}
 
 or_none : {X : Type 0} (o : Option X) → option_or o None ≡ o

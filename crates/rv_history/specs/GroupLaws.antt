@@ -9,11 +9,11 @@ use Rattle.rv_book.specs.declared.entry.Entry.{Entry}
 use Rattle.rv_book.specs.declared.entry.Entry.TheVariants.{Act, Look, Retire}
 use Rattle.rv_book.specs.Entries.{retires, order_after, bound_in, retired_in, last_in, group_of_in}
 use Rattle.rv_book.specs.Book.{Book, bound, retired, group_of, last, last_order, opening, page_client, page_group, with_entry, book_from, with_entries}
-use Rattle.rv_book.specs.BookWords.{last_order-with_entry, with_entries-more, with_entry-more}
+use Rattle.rv_book.specs.BookWordLaws.{last_order-with_entry, with_entries-more, with_entry-more}
 use Rattle.rv_history.specs.Groups.{is_of_other, is_elsewhere}
 use Rattle.rv_history.specs.Lawful.{IsLawfulAfter, IsLawful}
-use Rattle.rv_history.specs.Laws.{is_of_group, user_for_group, group_for_client, RetiredGroupsRest}
-use Rattle.rv_history.specs.LawfulBooks.{lawful_front, here, onward, last_append, last_cons, orders_stay, one}
+use Rattle.rv_history.specs.Properties.{is_of_group, user_for_group, group_for_client, RetiredGroupsRest}
+use Rattle.rv_history.specs.LawfulBookLaws.{lawful_front, here, onward, last_append, last_cons, orders_stay, one}
 
 -- where an entry of a list stands
 split_in : (entries : List Entry) (entry : Entry) → Contains entries entry → (before : List Entry) × (after : List Entry) × (entries ≡ before ++ entry ∷ after)

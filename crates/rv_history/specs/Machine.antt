@@ -1,5 +1,6 @@
 -- The machine: what may come of what is asked at a book, and which book is left.
-use Rattle.std.specs.Prelude.{decimal, ℕ, ◌≡◌, ◌+◌, ◌-◌, ◌^◌, ◌<◌, ◌≤◌, Bool, true, false, max, List, [], None, IsSome, option_and_then}
+use Rattle.std.specs.Prelude.{decimal, ℕ, ◌≡◌, ◌+◌, ◌-◌, ◌^◌, ◌<◌, ◌≤◌, ◌⊎◌, Bool, true, false, max, List, [], None, IsSome, option_and_then}
+use Rattle.rv_book.specs.declared.entry.Entry.{Entry}
 use Rattle.rv_book.specs.declared.entry.Entry.TheVariants.{Act, Look, Retire}
 use Rattle.rv_book.specs.Book.{Book, bound, retired, last, last_order, size, with_entry}
 use Rattle.rv_views.specs.declared.cookie.Cookie.{Cookie}
@@ -17,6 +18,10 @@ use Rattle.rv_history.specs.Groups.{is_of_other, is_elsewhere, Admits}
 use Rattle.rv_history.specs.History.{patch_since, ids_since}
 use Rattle.rv_history.specs.Bases.{base_of, base_group}
 use Rattle.rv_history.specs.Closing.{Closes}
+
+-- at most one entry is added
+abbrev pub Adds : Book → Book → Type 0
+Adds old new = (new ≡ old) ⊎ ((e : Entry) × (new ≡ with_entry old e))
 
 -- A mutation's id is looked at where its user may use the group and its client is of no other group.
 pub record TakesMutation (from : Sender) (client : List ℕ) (book : Book) : Type 0 where

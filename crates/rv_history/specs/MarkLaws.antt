@@ -5,7 +5,7 @@ use Rattle.std.proofs.lemmas.Bool.{cases_lt}
 use Rattle.rv_rows.specs.Sharing.{seen}
 use Rattle.rv_book.specs.declared.entry.Entry.{Entry}
 use Rattle.rv_book.specs.Book.{Book, empty_book, entry_at, size, up_to, with_entry}
-use Rattle.rv_book.specs.BookWords.{size-with_entry, up_to-with_entry, up_to-end, up_to-before, entry_at-with_entry, entry_at-end}
+use Rattle.rv_book.specs.BookWordLaws.{size-with_entry, up_to-with_entry, up_to-end, up_to-before, entry_at-with_entry, entry_at-end}
 use Rattle.rv_history.specs.Replay.{rows_of}
 use Rattle.rv_history.specs.Marks.{is_act_by, SeesSame, Concerns, IsMark}
 

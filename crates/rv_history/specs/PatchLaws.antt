@@ -11,8 +11,8 @@ use Rattle.std.proofs.lemmas.List.Sums.{fold-append}
 use Rattle.std.proofs.lemmas.Map.Entries.{option_filter}
 use Rattle.std.proofs.lemmas.Slice.Eq.{bytes_eq-Decides}
 use Rattle.rv_base.specs.Sorted.{find_by, put_by, without, InOrder, Distinct}
-use Rattle.rv_base.specs.Positions.{equals, not_same, find_put, find_without, found-any, in_order-put, in_order-without, in_order-sorted, in_order-filter}
-use Rattle.rv_base.specs.Arranged.{in_order-same, distinct-in_order, distinct-sorted, distinct-filter, find-filter, find-sorted, find-map}
+use Rattle.rv_base.specs.PositionLaws.{equals, not_same, find_put, find_without, found-any, in_order-put, in_order-without, in_order-sorted, in_order-filter}
+use Rattle.rv_base.specs.ArrangedLaws.{in_order-same, distinct-in_order, distinct-sorted, distinct-filter, find-filter, find-sorted, find-map}
 use Rattle.rv_rows.specs.declared.row.Row.{Row}
 use Rattle.rv_rows.specs.Keys.{row_key, key_text, row_text, row_at, has_row, in_key_order}
 use Rattle.rv_rows.specs.Sharing.{sees_row, seen}
@@ -22,7 +22,7 @@ use Rattle.rv_turns.specs.declared.op.Op.{Op}
 use Rattle.rv_turns.specs.declared.op.Op.TheVariants.{Clear, Del, Put}
 use Rattle.rv_book.specs.declared.entry.Entry.{Entry}
 use Rattle.rv_book.specs.Book.{Book, since, up_to}
-use Rattle.rv_book.specs.BookWords.{up_to-since}
+use Rattle.rv_book.specs.BookWordLaws.{up_to-since}
 use Rattle.rv_history.specs.Replay.{page_rows, rows_after, rows_of}
 use Rattle.rv_history.specs.Patches.{ClientView, KeyValue, key_value, client_view, applied}
 use Rattle.rv_history.specs.History.{is_written, is_touched, is_absent, is_news, patch_since}

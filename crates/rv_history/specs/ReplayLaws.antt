@@ -11,19 +11,19 @@ use Rattle.std.proofs.lemmas.Bool.{cases_lt}
 use Rattle.std.proofs.lemmas.List.Sums.{fold_push}
 use Rattle.std.proofs.lemmas.Slice.Eq.{bytes_eq-Decides}
 use Rattle.rv_base.specs.Sorted.{find_by, InOrder, Distinct}
-use Rattle.rv_base.specs.Positions.{in_order-sorted, equals, differs_back}
+use Rattle.rv_base.specs.PositionLaws.{in_order-sorted, equals, differs_back}
 use Rattle.rv_rows.specs.declared.row.Row.{Row}
 use Rattle.rv_rows.specs.declared.call.Call.{Call}
 use Rattle.rv_rows.specs.Keys.{row_text, row_at, in_key_order}
 use Rattle.rv_rows.specs.Effects.{effect}
 use Rattle.rv_rows.specs.Held.{Stored, AreRows, stored_key, find, rows_in}
 use Rattle.rv_rows.specs.Changes.{same_row, version_after, after}
-use Rattle.rv_base.specs.Arranged.{distinct-sorted, find-map, find-sorted}
+use Rattle.rv_base.specs.ArrangedLaws.{distinct-sorted, find-map, find-sorted}
 use Rattle.rv_rows.specs.EffectLaws.{distinct-effect, effect-sorted, same_row-Decides}
 use Rattle.rv_book.specs.declared.entry.Entry.{Entry}
 use Rattle.rv_book.specs.declared.entry.Entry.TheVariants.{Act, Look, Retire}
 use Rattle.rv_book.specs.Book.{Book, size, with_entry, empty_book, with_entries}
-use Rattle.rv_book.specs.BookWords.{size-with_entries, size-with_entry, up_to-with_entries, up_to-before, up_to-end}
+use Rattle.rv_book.specs.BookWordLaws.{size-with_entries, size-with_entry, up_to-with_entries, up_to-before, up_to-end}
 use Rattle.rv_history.specs.Replay.{page_rows, rows_after, rows_of, IsPageVersion, Wrote, IsLastWrite, IsReplay}
 
 -- the row of a key at a book

@@ -1,9 +1,8 @@
 -- What follows from a turn: where no closing is asked or in doubt, a step adds at most one entry to its book, and so does settling, and a turn
 -- only adds to it; each turn that tells no trouble is a step from the settled book, in which no fault came.
-use Rattle.std.proofs.Common.{◌≡◌, ℕ, ◌+◌, ◌⊎◌, ap, arith, inl, inr, Bool, true, false, List, [], ◌∷◌, Option, Some, None, refl, sym, subst, ◌∙◌}
-use Rattle.rv_book.specs.declared.entry.Entry.{Entry}
-use Rattle.rv_book.specs.Book.{Book, size, with_entry, Extends}
-use Rattle.rv_book.specs.BookWords.{extends_same, extends_on, size-with_entry}
+use Rattle.std.proofs.Common.{◌≡◌, ℕ, ◌+◌, ap, arith, inl, inr, Bool, true, false, List, [], ◌∷◌, Option, Some, None, refl, sym, subst, ◌∙◌}
+use Rattle.rv_book.specs.Book.{Book, size, Extends}
+use Rattle.rv_book.specs.BookWordLaws.{extends_same, extends_on, size-with_entry}
 use Rattle.rv_turns.specs.Asks.{Ask, IsClosing}
 use Rattle.rv_turns.specs.Outcomes.{refusal_of, trouble_of}
 use Rattle.rv_turns.specs.declared.outcome.Outcome.{Outcome}
@@ -12,12 +11,8 @@ use Rattle.rv_turns.specs.declared.pull.PullReply.{PullReply}
 use Rattle.rv_turns.specs.declared.pull.PullRequest.{PullRequest}
 use Rattle.rv_turns.specs.declared.refusal.Trouble.{Trouble}
 use Rattle.rv_turns.specs.declared.refusal.Trouble.TheVariants.{Keeper, Changed}
-use Rattle.rv_history.specs.Machine.{ReplyText, Replies, Step}
+use Rattle.rv_history.specs.Machine.{ReplyText, Replies, Step, Adds}
 use Rattle.rv_history.specs.Served.{Next, with_next, MayFollow, Served, Settles, TurnOf, TakesTurn, Doubt, IsNoClosing, IsOf}
-
--- at most one entry is added
-abbrev pub Adds : Book → Book → Type 0
-Adds old new = (new ≡ old) ⊎ ((e : Entry) × (new ≡ with_entry old e))
 
 adds_go : (old new : Book) → Adds old new → Extends new old
 adds_go old new (inl same) = extends_same new old same

@@ -3,7 +3,7 @@ ghost use Rattle.rv_history.specs.Clients.{ClientsFollow, ClientsFollowOn};
 ghost use Rattle.rv_history.specs.Closing.{ClosedBooksGoOn};
 ghost use Rattle.rv_history.specs.Machine.{ReplyText};
 ghost use Rattle.rv_history.specs.Succession.{ClosedBooksAreSuccessive, MutationsStay};
-ghost use Rattle.rv_history.specs.Laws.{IdsCountUp, OrdersRise, GroupsHaveOneUser, ClientsHaveOneGroup, RetiredGroupsRest, EntriesStandOnce, PushesKeepLaw, TurnsKeepLaw, PullsShow, PatchesShow, PatchesArePermitted, MutationsStand, PushesStand};
+ghost use Rattle.rv_history.specs.Properties.{IdsCountUp, OrdersRise, GroupsHaveOneUser, ClientsHaveOneGroup, RetiredGroupsRest, EntriesStandOnce, PushesKeepLaw, TurnsKeepLaw, PullsShow, PatchesShow, PatchesArePermitted, MutationsStand, PushesStand};
 
 /// In a lawful book each client's acts have the ids 1, 2, 3 and so on.
 pub fn ids_count_up()

@@ -12,7 +12,7 @@ use Rattle.rv_http.specs.Heads.{Head, judge}
 use Rattle.rv_http.specs.Scans.{IsOpen, HeadIsRefused}
 use Rattle.rv_http.specs.Requests.{BeginsWithHead, Judged, Gives, IsPartial, Waits, window}
 use Rattle.rv_http.specs.RequestLaws.{begins_more, gives_more, gives_one, same_head}
-use Rattle.rv_http.specs.Laws.{IsRefusal, IsJudgement, IsRequest, IsThisRefusal}
+use Rattle.rv_http.specs.Properties.{IsRefusal, IsJudgement, IsRequest, IsThisRefusal}
 use Rattle.rv_http.proofs.Refusing.{window_more, open_more, nothing_is_not_refused}
 use Rattle.rv_http.proofs.Ends.{some_head}
 

@@ -10,4 +10,4 @@ pub mod Responses
 pub mod Rejections
 pub mod Routes
 pub mod RequestLaws
-pub mod Laws
+pub mod Properties

@@ -11,10 +11,10 @@ use Rattle.rv_book.specs.declared.entry.Entry.{Entry}
 use Rattle.rv_book.specs.declared.entry.Entry.TheVariants.{Act, Look, Retire}
 use Rattle.rv_book.specs.Entries.{last_in}
 use Rattle.rv_book.specs.Book.{Book, last, opening, with_entry}
-use Rattle.rv_history.specs.LawfulBooks.{last_cons}
+use Rattle.rv_history.specs.LawfulBookLaws.{last_cons}
 use Rattle.rv_history.specs.Served.{Settles, Doubt, with_doubt}
 use Rattle.rv_import.specs.Imports.{asked_from, asked_with, asked_in, asked_of, call_of_record, client_id, todo_id, is_import_header}
-use Rattle.rv_import.specs.Records.{Record, records_of}
+use Rattle.rv_csv.specs.Records.{Record, records_of}
 use Rattle.rv_import.specs.ActsOnce.{act_call, calls_of, AreFirst}
 
 -- the number of a client's acts is that of their calls

@@ -2,7 +2,7 @@
 use Rattle.std.proofs.Common.{◌≡◌, ℕ, ◌+◌, ◌≤◌, ◌<◌, ◌^◌, Bool, true, false, List, [], ◌∷◌, length, Option, Some, None, ap, arith}
 use Rattle.std.proofs.lemmas.Bool.{false≢true}
 use Rattle.rv_rows.specs.declared.call.Call.{Call}
-use Rattle.rv_import.specs.Records.{Record, records_of}
+use Rattle.rv_csv.specs.Records.{Record, records_of}
 use Rattle.rv_import.specs.Imports.{Asked, asked_from, asked_with, call_of_record, client_id, todo_id, import_limit}
 use Rattle.rv_import.specs.Steps.{HasImportHeader}
 use Rattle.rv_import.proofs.Counting.{few_records}

@@ -4,7 +4,7 @@ use Rattle.csv.specs.Machine.{Read, next_record}
 use Rattle.csv.specs.Reading.{default_config, records_from, records_next, strip_bom, is_bom}
 use Rattle.csv.specs.declared.parser.State.{State}
 use Rattle.csv.specs.declared.parser.State.TheVariants as st
-use Rattle.rv_import.specs.Records.{Record, records_of}
+use Rattle.rv_csv.specs.Records.{Record, records_of}
 
 few_next : (n : ℕ) (more : State → List ℕ → List Record) → ((s : State) (xs : List ℕ) → length (more s xs) ≤ n) → (o : Option Read) → length (records_next more o) ≤ suc n
 few_next n more few None = omega arith

@@ -1,13 +1,3 @@
-pub mod RecordLaws
-pub mod Readings
-pub mod FieldLaws
-pub mod WriterLaws
-pub mod Orders
-pub mod Fronts
-pub mod RowTextLaws
-pub mod Again
-pub mod ViewLaws
-pub mod ExportLaws
 pub mod Sizes
 pub mod Counting
 pub mod Askings

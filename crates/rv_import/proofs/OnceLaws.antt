@@ -18,7 +18,7 @@ use Rattle.rv_turns.specs.declared.refusal.Trouble.TheVariants.{Keeper, Changed}
 use Rattle.rv_book.specs.declared.entry.Entry.{Entry}
 use Rattle.rv_book.specs.declared.entry.Entry.TheVariants.{Act}
 use Rattle.rv_book.specs.Book.{Book, bound, group_of, last, retired, size, with_entry}
-use Rattle.rv_book.specs.BookWords.{last-with_entry, retired-with_entry, size-with_entry}
+use Rattle.rv_book.specs.BookWordLaws.{last-with_entry, retired-with_entry, size-with_entry}
 use Rattle.rv_history.specs.GroupLaws.{owner_is, home_is}
 use Rattle.rv_history.specs.Machine.{ReplyText, Step, TakesMutation, Refuses}
 use Rattle.rv_history.specs.Served.{Next, Served, TurnOf, TakesTurn, Doubt}

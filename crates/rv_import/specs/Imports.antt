@@ -8,7 +8,7 @@ use Rattle.rv_rows.specs.declared.call.Call.TheVariants.{CreateTodo, Void}
 use Rattle.rv_rows.specs.declared.call.Reason.TheVariants.{BadArgs}
 use Rattle.rv_rows.specs.Members.{within}
 use Rattle.rv_turns.specs.declared.mutation.Mutation.{Mutation}
-use Rattle.rv_import.specs.Records.{Record, records_of}
+use Rattle.rv_csv.specs.Records.{Record, records_of}
 
 abbrev pub group_id : List ℕ → List ℕ
 group_id user = codes "csv/" ++ user

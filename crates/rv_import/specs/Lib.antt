@@ -1,9 +1,3 @@
-pub mod Records
-pub mod Views
-pub mod Exports
-pub mod Left
-pub mod RowReading
-pub mod Writing
 pub mod Imports
 pub mod Importing
 pub mod Steps

@@ -5,7 +5,7 @@ use Rattle.rv_turns.specs.declared.mutation.Mutation.{Mutation}
 use Rattle.rv_turns.specs.declared.outcome.Outcome.{Outcome}
 use Rattle.rv_turns.specs.declared.refusal.Refusal.{Refusal}
 use Rattle.rv_turns.specs.declared.refusal.Refusal.TheVariants as refusals
-use Rattle.rv_import.specs.Records.{Record}
+use Rattle.rv_csv.specs.Records.{Record}
 use Rattle.rv_import.specs.Imports.{Asked, asked_in, bad_at, is_import_header}
 use Rattle.rv_import.specs.Importing.{is_skipped}
 use Rattle.rv_import.specs.declared.import_end.ImportCounts.{ImportCounts}

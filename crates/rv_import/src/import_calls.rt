@@ -77,7 +77,7 @@ pub(crate) fn is_import_header(fields: &ByteRecord) -> bool
 }
 
 // The text of these bytes, where they are UTF-8.
-#[tactic(auto, using(crate::proofs::FieldLaws::is_text, crate::proofs::FieldLaws::no_text))]
+#[tactic(auto, using(rv_csv::proofs::FieldLaws::is_text, rv_csv::proofs::FieldLaws::no_text))]
 fn text_of(bytes: &[u8]) -> Option<&str>
     ensures found { IfSome result (λ text. (text.now ≡ bytes.now) × (is_utf8 bytes.now ≡ true)) }
     ensures none { IfNone result (is_utf8 bytes.now ≡ false) }

@@ -7,9 +7,9 @@ ghost use Rattle.rv_import.specs.declared.import_records.Stop.TheVariants as sto
 
 use crate::import_calls::{call_of_record, is_import_header};
 use crate::importing::{ImportName, import_client, import_todo};
-use crate::records::Records;
 use csv::ByteRecord;
 use rv_base::{Memory, Num, User};
+use rv_csv::Records;
 use rv_turns::Mutation;
 use std::alloc::Global;
 use std::marker::Model;

@@ -3,7 +3,8 @@ use Rattle.std.proofs.Common.{◌≡◌, ℕ, List, None}
 use Rattle.std.specs.Str.{IsUtf8}
 use Rattle.std.proofs.lemmas.Str.{is_utf8-from_IsUtf8}
 use Rattle.serde_json.specs.Read.{read}
-use Rattle.rv_json.specs.JsonTexts.{json_in, json_none}
+use Rattle.rv_json.specs.JsonTexts.{json_in}
+use Rattle.rv_json.specs.JsonTextLaws.{json_none}
 
 pub json_of_text : (text : List ℕ) → IsUtf8 text → json_in text ≡ read text
 unfolding json_in

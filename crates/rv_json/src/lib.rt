@@ -5,12 +5,12 @@
 //! of their names' bytes. The other functions look into a tree, and say what they find of that value.
 #![tactic(auto)]
 
-mod looking;
+mod lookup;
 mod numbers;
 mod objects;
 mod readable;
 mod reading;
 
-pub use looking::{flag, is_null, is_object, item, items, member, text, whole};
+pub use lookup::{flag, is_null, is_object, item, items, member, text, whole};
 pub use objects::{Members, members};
 pub use reading::read_json;

@@ -16,7 +16,7 @@ fn is_signed(text: &str) -> bool
 }
 
 /// The whole number that a number's text writes, where it fits 64 bits: without a point and an exponent, and not below 0.
-#[tactic(auto, using(crate::specs::Numbers::signed_is_not_whole, crate::specs::Numbers::unsigned_is_whole, crate::specs::Numbers::some_iff, crate::specs::Numbers::whole_iff))]
+#[tactic(auto, using(crate::specs::NumberLaws::signed_is_not_whole, crate::specs::NumberLaws::unsigned_is_whole, crate::specs::NumberLaws::some_iff, crate::specs::NumberLaws::whole_iff))]
 pub(crate) fn whole_number(text: &str) -> Option<u64>
     ensures { result ≡ option_and_then as_u64 (number_of text.now) }
 {
@@ -52,7 +52,7 @@ fn is_signed_in_range(numeral: &Numeral<'_>) -> bool
 }
 
 /// Whether a number's text has a value: it is whole and fits 64 bits, or its float is finite.
-#[tactic(auto, using(crate::specs::Numbers::unsigned_in_range, crate::specs::Numbers::signed_in_range))]
+#[tactic(auto, using(crate::specs::NumberLaws::unsigned_in_range, crate::specs::NumberLaws::signed_in_range))]
 pub(crate) fn is_in_range(text: &str) -> bool
     ensures { result ≡ is_some (number_of text.now) }
 {

@@ -4,7 +4,7 @@ use Rattle.std.specs.List.{filter, AllByRecursion}
 use Rattle.std.specs.Str.{bytes_eq}
 use Rattle.std.specs.Prelude.{not}
 use Rattle.rv_base.specs.Sorted.{put_by}
-use Rattle.rv_base.specs.Positions.{in_order-put, in_order-without, all-put}
+use Rattle.rv_base.specs.PositionLaws.{in_order-put, in_order-without, all-put}
 use Rattle.rv_keeper.specs.declared.cell.Cell.{Cell}
 use Rattle.rv_keeper.specs.declared.change.Change.{Change}
 use Rattle.rv_keeper.specs.declared.change.Change.TheVariants.{Put, Remove}

@@ -1,4 +1,3 @@
 pub mod Schedule
 pub mod Changed
 pub mod Named
-pub mod MemoryStores

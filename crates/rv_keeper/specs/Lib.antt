@@ -1,11 +1,9 @@
 pub mod Cells
+pub mod ShelfNumbers
 pub mod Keeping
 pub mod Schedules
 pub mod Stores
 pub mod StoreLaws
 pub mod Puts
 pub mod Named
-pub mod MemoryStores
-pub mod PlaceStates
-pub mod AbsentStores
 pub mod Crashes

@@ -17,8 +17,8 @@ pub struct Cell {
     pub body: Bytes,
 }
 
-// The same bytes, in memory of their own.
-pub(crate) fn copy_bytes(alloc: Global, bytes: &Bytes) -> Result<Bytes, Memory>
+/// The same bytes, in memory of their own.
+pub fn copy_bytes(alloc: Global, bytes: &Bytes) -> Result<Bytes, Memory>
     ensures { IfOk result (λ copy. copy ≡ bytes.now) }
 {
     let items = bytes.as_slice().to_vec(alloc)?;

@@ -1,17 +1,17 @@
-// Changes of cells in pages, which can't fail where there is space for the cells that they write.
+// Changes of cells in chunks, which can't fail where there is space for the cells that they write.
 ghost use Rattle.std.specs.Prelude.{◌≡◌, ◌≤◌, ◌<◌, ◌+◌, [], ◌∷◌, MatchResult};
 ghost use Rattle.std.specs.Ordering.{nat_cmp};
 ghost use Rattle.std.specs.Cmp.Lexicographic.{slice_cmp};
 ghost use Rattle.std.specs.List.{AllByRecursion};
 ghost use Rattle.rv_base.specs.Sorted.{InOrder, IsPositionOf, put_by, without};
-ghost use Rattle.rv_pages.specs.Paging.{items, place, IsItem, IsGap};
+ghost use Rattle.rv_chunks.specs.Chunking.{items, index_found, IsItem, IsGap};
 ghost use Rattle.rv_keeper.specs.Cells.{AreCells, cell_key, change_shelf, changed, changed_by};
 ghost use Rattle.rv_keeper.specs.Puts.{puts};
 
 use crate::cell::Cell;
 use crate::change::Change;
 use rv_base::Bytes;
-use rv_pages::{At, Compare, Pages};
+use rv_chunks::{At, Chunks, Compare};
 use std::cmp::Ordering;
 
 // The cell of a shelf and a key, as it is looked for.
@@ -30,19 +30,19 @@ impl<'a> Compare<Cell> for SoughtCell<'a> {
 }
 
 // Where the cell of a shelf and a key stands, or where it would go.
-fn position(cells: &Pages<Cell>, shelf: u8, key: &Bytes) -> Result<At, At>
-    requires { InOrder cell_key (items cells.now.pages) }
-    ensures position { IsPositionOf cell_key (shelf ∷ key.now) (items cells.now.pages) (place cells.now.pages result) }
-    ensures at { MatchResult result (IsItem cells.now.pages) (IsGap cells.now.pages) }
+fn position(cells: &Chunks<Cell>, shelf: u8, key: &Bytes) -> Result<At, At>
+    requires { InOrder cell_key (items cells.now.chunks) }
+    ensures position { IsPositionOf cell_key (shelf ∷ key.now) (items cells.now.chunks) (index_found cells.now.chunks result) }
+    ensures at { MatchResult result (IsItem cells.now.chunks) (IsGap cells.now.chunks) }
 {
     cells.position(&SoughtCell { shelf, key })
 }
 
 /// Writes a cell, over the one at its place.
-pub(crate) fn put(cells: &mut Pages<Cell>, cell: Cell)
-    requires order { InOrder cell_key (items cells.old.pages) }
+pub(crate) fn put(cells: &mut Chunks<Cell>, cell: Cell)
+    requires order { InOrder cell_key (items cells.old.chunks) }
     requires spare { 1 ≤ cells.old.spare }
-    ensures cells { items cells.new.pages ≡ put_by cell_key cell (items cells.old.pages) }
+    ensures cells { items cells.new.chunks ≡ put_by cell_key cell (items cells.old.chunks) }
     ensures spare { cells.old.spare ≤ cells.new.spare + 1 }
 {
     match position(cells, cell.shelf, &cell.key) {
@@ -52,9 +52,9 @@ pub(crate) fn put(cells: &mut Pages<Cell>, cell: Cell)
 }
 
 // Takes away the cell of a shelf and a key, if it is there.
-fn remove(cells: &mut Pages<Cell>, shelf: u8, key: &Bytes)
-    requires { InOrder cell_key (items cells.old.pages) }
-    ensures cells { items cells.new.pages ≡ without cell_key (shelf ∷ key.now) (items cells.old.pages) }
+fn remove(cells: &mut Chunks<Cell>, shelf: u8, key: &Bytes)
+    requires { InOrder cell_key (items cells.old.chunks) }
+    ensures cells { items cells.new.chunks ≡ without cell_key (shelf ∷ key.now) (items cells.old.chunks) }
     ensures spare { cells.old.spare ≤ cells.new.spare }
 {
     match position(cells, shelf, key) {
@@ -64,10 +64,10 @@ fn remove(cells: &mut Pages<Cell>, shelf: u8, key: &Bytes)
 }
 
 // Makes one change.
-fn make_one(cells: &mut Pages<Cell>, change: Change)
-    requires order { InOrder cell_key (items cells.old.pages) }
+fn make_one(cells: &mut Chunks<Cell>, change: Change)
+    requires order { InOrder cell_key (items cells.old.chunks) }
     requires spare { puts (change ∷ []) ≤ cells.old.spare }
-    ensures cells { items cells.new.pages ≡ changed_by (items cells.old.pages) change }
+    ensures cells { items cells.new.chunks ≡ changed_by (items cells.old.chunks) change }
     ensures spare { cells.old.spare ≤ cells.new.spare + puts (change ∷ []) }
 {
     match change {
@@ -78,12 +78,12 @@ fn make_one(cells: &mut Pages<Cell>, change: Change)
 
 /// Makes the changes.
 #[tactic(auto, using(crate::proofs::Changed::are_cells_changed))]
-pub(crate) fn make_all(cells: &mut Pages<Cell>, changes: Vec<Change>)
-    requires cells { AreCells (items cells.old.pages) }
+pub(crate) fn make_all(cells: &mut Chunks<Cell>, changes: Vec<Change>)
+    requires cells { AreCells (items cells.old.chunks) }
     requires changes { AllByRecursion (λ change. 0 < change_shelf change) changes.items }
     requires spare { puts changes.items ≤ cells.old.spare }
-    ensures order { AreCells (items cells.new.pages) }
-    ensures cells { items cells.new.pages ≡ changed (items cells.old.pages) changes.items }
+    ensures order { AreCells (items cells.new.chunks) }
+    ensures cells { items cells.new.chunks ≡ changed (items cells.old.chunks) changes.items }
 {
     for change in changes {
         make_one(cells, change);

@@ -7,33 +7,33 @@ use crate::change::Change;
 use crate::changing::{count_puts, make_all, put};
 use crate::loaded::Cells;
 use rv_base::{Memory, Sequence};
-use rv_pages::Pages;
+use rv_chunks::Chunks;
 use std::alloc::Global;
 use std::marker::Model;
 
-// How many cells a page has at most: a cell that comes moves some 1,000 bytes of its page.
-const PAGE: usize = 64;
+// How many cells a chunk has at most: a cell that comes moves some 1,000 bytes of its chunk.
+const CHUNK: usize = 64;
 
-/// Cells in the order of their shelves and then of their keys, each place once. They stand in pages, so a change moves the
-/// cells of a page at most.
+/// Cells in the order of their shelves and then of their keys, each place once. They stand in chunks, so a change moves the
+/// cells of a chunk at most.
 ///
 /// A contract sees the list of the cells.
 #[derive(Debug, Drop)]
 pub struct Shelves {
-    cells: Pages<Cell>,
+    cells: Chunks<Cell>,
 }
 
 impl Model for Shelves {
     ghost use Rattle.std.specs.Prelude.{List};
-    ghost use Rattle.rv_pages.specs.Paging.{items};
+    ghost use Rattle.rv_chunks.specs.Chunking.{items};
     ghost use Rattle.rv_keeper.specs.declared.cell.Cell.{Cell};
     ghost use Rattle.rv_keeper.specs.Cells.{AreCells};
 
     ghost Value = { List Cell };
 
-    ghost view = { λ s. items s.cells.pages };
+    ghost view = { λ s. items s.cells.chunks };
 
-    ghost invariant = { λ s. AreCells (items s.cells.pages) };
+    ghost invariant = { λ s. AreCells (items s.cells.chunks) };
 }
 
 impl Shelves {
@@ -42,7 +42,7 @@ impl Shelves {
         ensures { result ≡ [] }
     {
         Shelves {
-            cells: Pages::new(alloc, PAGE),
+            cells: Chunks::new(alloc, CHUNK),
         }
     }
 
@@ -82,7 +82,7 @@ impl Shelves {
         Ok(cells)
     }
 
-    /// Makes all the changes, or at want of memory none. A change costs a binary search, and a move of cells of one page;
+    /// Makes all the changes, or at want of memory none. A change costs a binary search, and a move of cells of one chunk;
     /// other cells are not touched.
     pub fn make(&mut self, alloc: Global, changes: &[Change]) -> Result<(), Memory>
         requires { AreChanges changes.now }

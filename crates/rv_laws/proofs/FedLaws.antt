@@ -7,9 +7,10 @@ use Rattle.rv_keeper.specs.declared.place.Place.{Ghosts as PlaceGhosts}
 use Rattle.rv_keeper.specs.Stores.{TakesUp}
 use Rattle.rv_book.specs.Book.{Book, size}
 use Rattle.rv_history.specs.Clients.{ClientPull, ClientsFollowOn, EachCurrentIn, WasSentIn}
-use Rattle.rv_history.specs.Succession.{ClosedBooksAreSuccessive, MutationsStay, books_of, goes_on_through}
+use Rattle.rv_history.specs.Succession.{ClosedBooksAreSuccessive, MutationsStay, books_of}
+use Rattle.rv_history.specs.SuccessionLaws.{goes_on_through}
 use Rattle.rv_wire.specs.Answers.{pull_json}
-use Rattle.rv_history.specs.Laws.{ReplyShows}
+use Rattle.rv_history.specs.Properties.{ReplyShows}
 use Rattle.rv_history.specs.Served.{Doubt, IsSound, Served, MayStand}
 use Rattle.rv_answering.specs.declared.answer.Answer.{Answer}
 use Rattle.rv_answering.specs.declared.answer.Answer.TheVariants.{Pulled, Pushed}

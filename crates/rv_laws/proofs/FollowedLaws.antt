@@ -3,10 +3,10 @@ use Rattle.std.proofs.Common.{◌≡◌, ℕ, ◌+◌, ◌-◌, ◌^◌, ◌≤�
 use Rattle.std.proofs.lemmas.Bool.Decides.{nat_tests}
 use Rattle.rv_book.specs.Book.{Book, empty_book}
 use Rattle.rv_history.specs.Bases.{base_of}
-use Rattle.rv_history.specs.Laws.{IsBaseView, ReplyTells}
+use Rattle.rv_history.specs.Properties.{IsBaseView, ReplyTells}
 use Rattle.rv_history.specs.Patches.{ClientView, apply, client_view}
 use Rattle.rv_keeper.specs.declared.cell.Cell.{Cell}
-use Rattle.rv_opening.specs.PageCells.{page_cells}
+use Rattle.rv_record.specs.PageCells.{page_cells}
 use Rattle.rv_store.specs.Opening.{IsSoundBook}
 use Rattle.rv_store.specs.StoreCells.{entry_cells}
 use Rattle.rv_views.specs.declared.cookie.Cookie.{Cookie}
@@ -23,7 +23,7 @@ use Rattle.rv_standby.specs.Following.{Answers}
 use Rattle.rv_standby.proofs.Fronts.{answers_tell, fronts_are_shown}
 use Rattle.rv_following.specs.declared.follow_line.FollowLine.{FollowLine}
 use Rattle.rv_following.specs.declared.follow_line.FollowLine.TheVariants as lines
-use Rattle.rv_following.specs.FollowLaws.{StandsAt, TakesEach, book_says, cells_say, follows, gathers}
+use Rattle.rv_following.specs.FollowProperties.{StandsAt, TakesEach, book_says, cells_say, follows, gathers}
 use Rattle.rv_following.specs.FollowSteps.{AnswersOrNot, Following, Follows}
 use Rattle.rv_following.proofs.Followed.{lines_are_followed}
 use Rattle.rv_cli.specs.FollowPromise.{no_line_yet}

@@ -1,12 +1,12 @@
 -- Runs keep the law, each pull is shown, and each trouble has its cause.
 use Rattle.std.proofs.Common.{◌≡◌, ℕ, List, [], ◌∷◌, ◌++◌, ◌≤◌, ◌-◌, ◌^◌, length, Option, Some, None, Ok, Err, refl, sym, ◌∙◌, subst, inl, inr, arith}
 use Rattle.rv_book.specs.Book.{Book, Extends}
-use Rattle.rv_book.specs.BookWords.{extends_same}
+use Rattle.rv_book.specs.BookWordLaws.{extends_same}
 use Rattle.rv_history.specs.Machine.{Step}
 use Rattle.rv_history.specs.Closing.{Closes, GoesOnFrom}
 use Rattle.rv_history.specs.Served.{Doubt, IsSound, KeepsLaw, MayStand, Next, Served, Settles, TakesTurn, with_doubt}
 use Rattle.rv_history.specs.TurnLaws.{goes_from, step_of}
-use Rattle.rv_history.specs.Laws.{IdsCountUp, IsEntered, OrdersRise, PushesStand, TurnsKeepLaw, PullsShow}
+use Rattle.rv_history.specs.Properties.{IdsCountUp, IsEntered, OrdersRise, PushesStand, TurnsKeepLaw, PullsShow}
 use Rattle.rv_answering.specs.declared.answer.Answer.{Answer}
 use Rattle.rv_answering.specs.declared.answer.Answer.TheVariants.{Pulled, Pushed}
 use Rattle.rv_answering.specs.declared.request.Request.TheVariants.{Push, Pull, Retire, Close}
@@ -15,7 +15,7 @@ use Rattle.rv_answering.specs.declared.line.Line.TheVariants.{Asks, Stop}
 use Rattle.rv_answering.specs.Requests.{Parsed}
 use Rattle.rv_answering.specs.AnswerLaws.{no_push, pulled_same, went}
 use Rattle.rv_answering.specs.Steps.{answer_of}
-use Rattle.rv_history.specs.Succession.{goes_on_same, goes_on_through}
+use Rattle.rv_history.specs.SuccessionLaws.{goes_on_same, goes_on_through}
 use Rattle.rv_cli.specs.Headline.{Handles, Reopens, TakesLine, Run, ShowsAt, IsLawfulFeed, IsShown}
 use Rattle.rv_cli.specs.TroubleLaws.{any_step_causes}
 use Rattle.rv_wire.specs.Answers.{pull_json}

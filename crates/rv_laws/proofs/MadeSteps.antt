@@ -8,7 +8,7 @@ use Rattle.rv_turns.specs.declared.outcome.Outcome.{Outcome}
 use Rattle.rv_turns.specs.declared.outcome.Outcome.TheVariants.{Acted, Skipped, Pulled, Retired, Closed, Refused}
 use Rattle.rv_turns.specs.declared.pull.PullReply.{PullReply}
 use Rattle.rv_book.specs.Book.{Book, size, with_entry}
-use Rattle.rv_book.specs.BookWords.{size-with_entry}
+use Rattle.rv_book.specs.BookWordLaws.{size-with_entry}
 use Rattle.rv_history.specs.Machine.{Step, cookie_order}
 use Rattle.rv_wire.specs.Answers.{pull_json}
 use Rattle.rv_make.specs.declared.made.MadeRequest.{MadeRequest}

@@ -4,7 +4,7 @@ use Rattle.std.specs.Prelude.{decimal}
 use Rattle.std.specs.Option.{option_map_or}
 use Rattle.std.specs.Str.{bytes_eq}
 use Rattle.std.proofs.Math.Nat.{max-le}
-use Rattle.rv_base.specs.Positions.{equals}
+use Rattle.rv_base.specs.PositionLaws.{equals}
 use Rattle.rv_rows.specs.declared.call.Call.{Call}
 use Rattle.rv_views.specs.declared.cookie.Cookie.{Cookie}
 use Rattle.rv_views.specs.declared.cookie.Cookie.TheVariants.{Named}

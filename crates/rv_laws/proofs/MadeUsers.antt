@@ -12,7 +12,7 @@ use Rattle.rv_book.specs.declared.entry.Entry.{Entry}
 use Rattle.rv_book.specs.declared.entry.Entry.TheVariants.{Act, Look}
 use Rattle.rv_book.specs.Entries.{order_after, retires}
 use Rattle.rv_book.specs.Book.{Book, bound, group_of, last, last_order, retired, size, with_entry}
-use Rattle.rv_book.specs.BookWords.{last-with_entry, last_order-with_entry, retired-with_entry, size-with_entry}
+use Rattle.rv_book.specs.BookWordLaws.{last-with_entry, last_order-with_entry, retired-with_entry, size-with_entry}
 use Rattle.rv_book.specs.RegisterLaws.{bound-push, group_of-push, NoneBut}
 use Rattle.rv_history.specs.Machine.{cookie_order}
 use Rattle.rv_make.specs.Answered.{is_look, is_same, is_skipped, one_if}

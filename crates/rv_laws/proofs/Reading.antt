@@ -5,17 +5,17 @@ use Rattle.std.specs.Option.{is_some, option_map_or}
 use Rattle.std.specs.Str.{bytes_eq}
 use Rattle.std.proofs.lemmas.List.Elements.{Contains-append_right}
 use Rattle.std.proofs.lemmas.Option.{same_Some}
-use Rattle.rv_base.specs.Positions.{equals}
+use Rattle.rv_base.specs.PositionLaws.{equals}
 use Rattle.rv_base.specs.Sorted.{find_by}
 use Rattle.rv_book.specs.Book.{Book, belongs, client_in, clients_named, group_of, ids, last, size, since, up_to, with_entries, Extends}
-use Rattle.rv_book.specs.BookWords.{up_to-all, up_to-since, up_to-with_entries}
+use Rattle.rv_book.specs.BookWordLaws.{up_to-all, up_to-since, up_to-with_entries}
 use Rattle.rv_book.specs.RegisterLaws.{client_is_named, find-info}
 use Rattle.rv_history.specs.Lawful.{IsLawful}
-use Rattle.rv_history.specs.LawfulBooks.{lawful_more}
-use Rattle.rv_history.specs.Laws.{HasRun, IsEntered}
+use Rattle.rv_history.specs.LawfulBookLaws.{lawful_more}
+use Rattle.rv_history.specs.Properties.{HasRun, IsEntered}
 use Rattle.rv_history.specs.Served.{Doubt, MayStand, Next, Settles, with_doubt}
-use Rattle.rv_history.specs.SoundClosing.{closed_books_go_on}
-use Rattle.rv_history.specs.Succession.{entered_ran}
+use Rattle.rv_history.specs.SoundClosingLaws.{closed_books_go_on}
+use Rattle.rv_history.specs.SuccessionLaws.{entered_ran}
 use Rattle.rv_turns.specs.Asks.{Sender}
 use Rattle.rv_turns.specs.declared.mutation.Mutation.{Mutation}
 use Rattle.rv_wire.specs.declared.push.Push as pushes

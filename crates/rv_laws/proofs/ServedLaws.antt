@@ -6,13 +6,13 @@ use Rattle.rv_base.specs.declared.outside.Source.{Ghosts as SourceGhosts}
 use Rattle.rv_base.specs.declared.outside.Sink.{Ghosts as SinkGhosts}
 use Rattle.rv_accounts.specs.File.{AccountsServed}
 use Rattle.rv_book.specs.Book.{Book, Extends}
-use Rattle.rv_book.specs.BookWords.{extends_same, extends_on}
+use Rattle.rv_book.specs.BookWordLaws.{extends_same, extends_on}
 use Rattle.rv_history.specs.Clients.{ClientPull, ClientsFollow, EachCurrent, WasSent}
 use Rattle.rv_history.specs.TurnLaws.{goes_from, no_trouble, settles_go, step_of, turn_goes}
 use Rattle.rv_history.specs.Lawful.{IsLawful}
-use Rattle.rv_history.specs.LawfulBooks.{lawful_front}
-use Rattle.rv_history.specs.Laws.{IsEntered, MutationsStand, PullsShow, ReplyShows}
-use Rattle.rv_history.specs.Succession.{entered_on}
+use Rattle.rv_history.specs.LawfulBookLaws.{lawful_front}
+use Rattle.rv_history.specs.Properties.{IsEntered, MutationsStand, PullsShow, ReplyShows}
+use Rattle.rv_history.specs.SuccessionLaws.{entered_on}
 use Rattle.rv_answering.specs.declared.answer.Answer.{Answer}
 use Rattle.rv_answering.specs.declared.answer.Answer.TheVariants.{Pushed, Pulled}
 use Rattle.rv_answering.specs.declared.request.Request.TheVariants.{Push, Pull}
@@ -22,7 +22,7 @@ use Rattle.rv_answering.specs.Steps.{Handles}
 use Rattle.rv_wire.specs.Answers.{pull_json}
 use Rattle.rv_net.specs.declared.listen.Listen.{Ghosts as ListenGhosts}
 use Rattle.rv_keeper.specs.declared.keeper.Keeper.{Ghosts}
-use Rattle.rv_desk.specs.Seated.{Seated, served}
+use Rattle.rv_desk.specs.DeskStates.{DeskState, served}
 use Rattle.rv_room.specs.declared.view.SeatView.{SeatView}
 use Rattle.rv_cli.specs.Serving.{StandsIn, TurnsStand}
 use Rattle.rv_laws.specs.Listeners.{FollowsIn, IsServedPull, ReadsIn, ServedClientsFollow, ServedPushesStand, ServedWritesAreRead, Together, turns_in}
@@ -152,7 +152,7 @@ reads_in G show book lawful stand user reader push pull at served = record {
 -- ---- All that is served.
 
 module _ {K L I O : Type 0} (G : Ghosts K) (listen : ListenGhosts L I O) (source : SourceGhosts I) (sink : SinkGhosts O) (accounts : AccountsServed) (turns_stand : TurnsStand G listen source sink accounts) where
-  abbrev turns : (opened : Seated K) (givens : List L) (now : Seated K) (backs : List L) → Together G listen source sink accounts opened givens now backs → List (Parsed × Answer)
+  abbrev turns : (opened : DeskState K) (givens : List L) (now : DeskState K) (backs : List L) → Together G listen source sink accounts opened givens now backs → List (Parsed × Answer)
   turns = turns_in G listen source sink accounts
 
   pub served_pushes_stand : MutationsStand pull_json → ServedPushesStand G listen source sink accounts

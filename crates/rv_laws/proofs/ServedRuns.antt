@@ -6,12 +6,12 @@ use Rattle.rv_base.specs.declared.outside.Source.{Ghosts as SourceGhosts}
 use Rattle.rv_base.specs.declared.outside.Sink.{Ghosts as SinkGhosts}
 use Rattle.rv_accounts.specs.File.{AccountsServed}
 use Rattle.rv_book.specs.Book.{Book, Extends}
-use Rattle.rv_book.specs.BookWords.{extends_same, extends_on}
+use Rattle.rv_book.specs.BookWordLaws.{extends_same, extends_on}
 use Rattle.rv_history.specs.TurnLaws.{goes_from, step_of, turn_goes}
-use Rattle.rv_history.specs.Laws.{IdsCountUp, OrdersRise, PullsShow}
+use Rattle.rv_history.specs.Properties.{IdsCountUp, OrdersRise, PullsShow}
 use Rattle.std.specs.Option.{option_map_or}
 use Rattle.rv_keeper.specs.declared.keeper.Keeper.{Ghosts}
-use Rattle.rv_desk.specs.Seated.{Seated, served}
+use Rattle.rv_desk.specs.DeskStates.{DeskState, served}
 use Rattle.rv_answering.specs.declared.answer.Answer.{Answer}
 use Rattle.rv_answering.specs.declared.answer.Answer.TheVariants.{Closed, Pulled, Pushed, Refused, Retired}
 use Rattle.rv_answering.specs.declared.request.Request.TheVariants.{Close, Push, Pull, Retire}
@@ -21,7 +21,7 @@ use Rattle.rv_net.specs.declared.listen.Listen.{Ghosts as ListenGhosts}
 use Rattle.rv_room.specs.declared.view.SeatView.{SeatView}
 use Rattle.rv_room.specs.Following.{FollowsAll, KeeperFollows}
 use Rattle.rv_room.specs.Views.{newcomer}
-use Rattle.rv_serve.specs.Laws.{RunsTurns, turns_of}
+use Rattle.rv_serve.specs.Properties.{RunsTurns, turns_of}
 use Rattle.rv_serve.specs.RunLaws.{conns_run}
 use Rattle.rv_workers.specs.Serving.{EachServes}
 use Rattle.rv_cli.specs.Headline.{AnswersChange, AnswersTrouble}
@@ -89,7 +89,7 @@ module _ {K : Type 0} (G : Ghosts K) where
   quiet_last keeper top is (old ∷ keepers) (follows, all) = (omega (arith, is, follows.later), quiet_last keeper top is keepers all)
 
   -- the count of the desk's keeper has not risen since the room was opened, or it failed no more then
-  abbrev Calm : Seated K → SeatView K → Type 0
+  abbrev Calm : DeskState K → SeatView K → Type 0
   Calm opened v = (Quiet G (G.faults opened.keeper) v × (G.faults opened.keeper < 2 ^ 64 - 1)) ⊎ G.fails_no_more opened.keeper
 
   -- no keeper that tells follows all that are remembered
@@ -98,7 +98,7 @@ module _ {K : Type 0} (G : Ghosts K) where
 
   -- where the room was opened with such a desk, this can't be
   abbrev Stirs : SeatView K → SeatView K → Type 0
-  Stirs old new = (opened : Seated K) → old.opened ≡ Some opened → Calm opened new → ⊥
+  Stirs old new = (opened : DeskState K) → old.opened ≡ Some opened → Calm opened new → ⊥
 
   stirs_before : (s t u : SeatView K) → SeatGoes s t → Stirs t u → Stirs s u
   stirs_before s t u goes stirs opened at calm = stirs opened (goes.opened ∙ at) calm
@@ -119,12 +119,12 @@ module _ {K : Type 0} (G : Ghosts K) (ask : Ask) (old new : SeatView K) (outcome
       let same : turn.opened ≡ opened = some_desk turn.opened opened (sym turn.room ∙ at) in
       let top : ℕ = G.faults opened.keeper in
       let now : G.faults turn.now.keeper ≤ top = all_last (λ (keeper : K). G.faults keeper ≤ top) old.after turn.now.keeper (subst (λ (l : List K). AllByRecursion (λ keeper. G.faults keeper ≤ top) l) turn.after quiet) in
-      let begun : top ≤ G.faults turn.desk.keeper = subst (λ (d : Seated K). G.faults d.keeper ≤ G.faults turn.desk.keeper) same turn.keeps.keeper.later in
+      let begun : top ≤ G.faults turn.desk.keeper = subst (λ (d : DeskState K). G.faults d.keeper ≤ G.faults turn.desk.keeper) same turn.keeps.keeper.later in
       let rose = (taken_rises ask (served G.faults turn.desk) (served G.faults turn.now) outcome turn.takes.turn).1 has in
       none_rises top (G.faults turn.desk.keeper) (G.faults turn.now.keeper) rose begun now below
   seat_rises (tr, is, any) opened at (inr calm) =
       let same : turn.opened ≡ opened = some_desk turn.opened opened (sym turn.room ∙ at) in
-      let steady : G.fails_no_more turn.desk.keeper = turn.keeps.keeper.goes_on (subst (λ (d : Seated K). G.fails_no_more d.keeper) (sym same) calm) in
+      let steady : G.fails_no_more turn.desk.keeper = turn.keeps.keeper.goes_on (subst (λ (d : DeskState K). G.fails_no_more d.keeper) (sym same) calm) in
       absurd (let no : Some tr ≡ None = sym is ∙ turn.takes.assured.sure steady in cc)
 
   seat_causes : SeatGoes old new × (HasTrouble (λ trouble. Unit {0}) (trouble_of outcome) → Stirs G old new)

@@ -2,7 +2,7 @@
 use Rattle.std.proofs.Common.{◌≡◌, ◌-◌, ◌^◌, inr, sym, subst, arith}
 use Rattle.rv_keeper.specs.declared.loaded.Loaded.{Loaded}
 use Rattle.rv_keeper.specs.declared.place.Place.{Ghosts as PlaceGhosts}
-use Rattle.rv_store.specs.StoreBooks.{settled_unique, sound-told}
+use Rattle.rv_store.specs.StoreBookLaws.{settled_unique, sound-told}
 use Rattle.rv_store.specs.StoreCells.{IsKeptAs}
 use Rattle.rv_laws.specs.Stores.{RunsGoOn}
 

@@ -6,9 +6,10 @@ use Rattle.rv_book.specs.Book.{Book, size, Extends}
 use Rattle.rv_history.specs.Clients.{AreSuccessive}
 use Rattle.rv_history.specs.Closing.{GoesOnBy, GoesOnFrom}
 use Rattle.rv_history.specs.Served.{IsSound, Served}
-use Rattle.rv_history.specs.Laws.{IsEntered}
+use Rattle.rv_history.specs.Properties.{IsEntered}
 use Rattle.rv_history.specs.Lawful.{IsLawful}
-use Rattle.rv_history.specs.Succession.{MutationsStay, books_of, goes_on_by, goes_on_same}
+use Rattle.rv_history.specs.Succession.{MutationsStay, books_of}
+use Rattle.rv_history.specs.SuccessionLaws.{goes_on_by, goes_on_same}
 use Rattle.rv_answering.specs.declared.answer.Answer.{Answer}
 use Rattle.rv_answering.specs.declared.line.Line.{Line}
 use Rattle.rv_answering.specs.declared.line.Line.TheVariants.{Asks}

@@ -10,7 +10,7 @@ use Rattle.rv_base.specs.Writes.{IsFront}
 use Rattle.rv_lines.specs.Lines.{lines_of}
 use Rattle.rv_keeper.specs.declared.place.Place.{Ghosts as PlaceGhosts}
 use Rattle.rv_history.specs.Clients.{ClientPull, IsClient, IsCurrent, held_then}
-use Rattle.rv_history.specs.Laws.{IsEntered}
+use Rattle.rv_history.specs.Properties.{IsEntered}
 use Rattle.rv_history.specs.Served.{Served}
 use Rattle.rv_answering.specs.declared.answer.Answer.{Answer}
 use Rattle.rv_answering.specs.declared.answer.Answer.TheVariants.{Pushed, Pulled}
@@ -136,7 +136,8 @@ module _ {P K : Type 0} (place : PlaceGhosts P K) where
 
   -- Each pull that was answered shows what its user sees at that point.
   abbrev pub FedPullsAreShown : Type 0
-  FedPullsAreShown = OfAllRuns (λ old new store bytes output output' run. (asked : Parsed) (reply : PullReply) (turn : IsTurn run.lines run.answers asked (Pulled reply)) → IsShown (place.tells new) run.first run.now turn.before turn.answered asked reply)
+  FedPullsAreShown = OfAllRuns (λ old new store bytes output output' run. (asked : Parsed) (reply : PullReply) (turn : IsTurn run.lines run.answers asked (Pulled reply))
+      → IsShown (place.tells new) run.first run.now turn.before turn.answered asked reply)
 
   -- Where the place's count of faults stayed below its last value, no answer tells a trouble with what keeps the book.
   abbrev pub FedTroublesHaveCauses : Type 0

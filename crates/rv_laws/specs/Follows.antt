@@ -3,7 +3,7 @@ use Rattle.std.specs.Prelude.{◌≡◌, ℕ, ◌+◌, ◌-◌, ◌^◌, List, [
 use Rattle.rv_book.specs.declared.entry.Entry.{Entry}
 use Rattle.rv_book.specs.Book.{Book, empty_book, size, with_entries}
 use Rattle.rv_history.specs.Bases.{base_of}
-use Rattle.rv_history.specs.Laws.{IsBaseView, ReplyTells}
+use Rattle.rv_history.specs.Properties.{IsBaseView, ReplyTells}
 use Rattle.rv_history.specs.Patches.{ClientView, apply, client_view}
 use Rattle.rv_store.specs.Opening.{IsSoundBook}
 use Rattle.rv_store.specs.StoreCells.{entry_cells}
@@ -14,7 +14,7 @@ use Rattle.rv_answering.specs.declared.answer.Answer.{Answer}
 use Rattle.rv_answering.specs.declared.answer.Answer.TheVariants.{Pulled}
 use Rattle.rv_following.specs.declared.follow_line.FollowLine.{FollowLine}
 use Rattle.rv_following.specs.declared.follow_line.FollowLine.TheVariants as lines
-use Rattle.rv_following.specs.FollowLaws.{book_says, cells_say}
+use Rattle.rv_following.specs.FollowProperties.{book_says, cells_say}
 use Rattle.rv_following.specs.FollowSteps.{Following}
 use Rattle.rv_cli.specs.FollowPromise.{no_line_yet}
 use Rattle.rv_cli.specs.Following.{follow_lines}

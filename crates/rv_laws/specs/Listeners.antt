@@ -8,9 +8,9 @@ use Rattle.rv_book.specs.Book.{Book, size, Extends}
 use Rattle.rv_keeper.specs.declared.keeper.Keeper.{Ghosts}
 use Rattle.rv_history.specs.Clients.{ClientPull, IsClient, IsCurrent, held_then}
 use Rattle.rv_wire.specs.Answers.{pull_json}
-use Rattle.rv_history.specs.Laws.{IsEntered, ReplyShows}
+use Rattle.rv_history.specs.Properties.{IsEntered, ReplyShows}
 use Rattle.rv_history.specs.Served.{IsSound}
-use Rattle.rv_desk.specs.Seated.{Seated, served}
+use Rattle.rv_desk.specs.DeskStates.{DeskState, served}
 use Rattle.rv_answering.specs.declared.answer.Answer.{Answer}
 use Rattle.rv_answering.specs.declared.answer.Answer.TheVariants.{Pushed, Pulled}
 use Rattle.rv_answering.specs.declared.request.Request.TheVariants.{Push, Pull}
@@ -49,17 +49,17 @@ pub record ReadsIn {K : Type 0} (G : Ghosts K) (book : Book) (user reader : List
 
 module _ {K L I O : Type 0} (G : Ghosts K) (listen : ListenGhosts L I O) (source : SourceGhosts I) (sink : SinkGhosts O) (accounts : AccountsServed) where
   -- these listeners were served at the desk that was opened, which was closed as this one
-  abbrev pub Together : Seated K → List L → Seated K → List L → Type 0
+  abbrev pub Together : DeskState K → List L → DeskState K → List L → Type 0
   Together opened givens now backs = ServesTogether G (Serves G listen source sink accounts) opened givens now backs
 
   -- all that was asked, with its answers
-  abbrev pub turns_in : (opened : Seated K) (givens : List L) (now : Seated K) (backs : List L) → Together opened givens now backs → List (Parsed × Answer)
+  abbrev pub turns_in : (opened : DeskState K) (givens : List L) (now : DeskState K) (backs : List L) → Together opened givens now backs → List (Parsed × Answer)
   turns_in opened givens now backs together =
       turns_served G listen source sink accounts (newcomer 1 opened) givens together.views backs together.serves
 
   -- something holds of all that were served so, where the desk that was closed is sound, by all that was asked
-  abbrev pub OfAllSound : (Seated K → List (Parsed × Answer) → Type 0) → Type 0
-  OfAllSound Holds = (opened now : Seated K) (givens backs : List L) (together : Together opened givens now backs) → IsSound (served G.faults now) → Holds now (turns_in opened givens now backs together)
+  abbrev pub OfAllSound : (DeskState K → List (Parsed × Answer) → Type 0) → Type 0
+  OfAllSound Holds = (opened now : DeskState K) (givens backs : List L) (together : Together opened givens now backs) → IsSound (served G.faults now) → Holds now (turns_in opened givens now backs together)
 
   -- Each mutation of a push that was not refused stands in the book at the end; but for an id of 0, which is skipped and stands nowhere.
   abbrev pub ServedPushesStand : Type 0

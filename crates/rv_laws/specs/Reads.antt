@@ -2,7 +2,7 @@
 use Rattle.std.specs.Prelude.{ℕ, ◌≤◌, List, Contains}
 use Rattle.std.specs.List.{AllByRecursion}
 use Rattle.rv_book.specs.Book.{Book, ids}
-use Rattle.rv_history.specs.Laws.{IsEntered}
+use Rattle.rv_history.specs.Properties.{IsEntered}
 use Rattle.rv_turns.specs.Asks.{Sender}
 use Rattle.rv_turns.specs.declared.mutation.Mutation.{Mutation}
 use Rattle.rv_wire.specs.declared.push.Push as pushes

@@ -8,9 +8,9 @@ use Rattle.rv_accounts.specs.File.{AccountsServed}
 use Rattle.rv_keeper.specs.declared.keeper.Keeper.{Ghosts}
 use Rattle.rv_keeper.specs.declared.place.Place.{Ghosts as PlaceGhosts}
 use Rattle.rv_history.specs.Clients.{ClientPull, IsClient}
-use Rattle.rv_history.specs.Laws.{IsEntered}
+use Rattle.rv_history.specs.Properties.{IsEntered}
 use Rattle.rv_history.specs.Served.{IsSound}
-use Rattle.rv_desk.specs.Seated.{Seated, served}
+use Rattle.rv_desk.specs.DeskStates.{DeskState, served}
 use Rattle.rv_answering.specs.declared.answer.Answer.{Answer}
 use Rattle.rv_answering.specs.declared.answer.Answer.TheVariants.{Pushed, Pulled}
 use Rattle.rv_answering.specs.declared.request.Request.TheVariants.{Push, Pull}
@@ -30,7 +30,7 @@ use Rattle.rv_wire.specs.declared.push.Push as pushes
 -- A run of `serve` on a store of a place and over a net, which are these before and these after.
 module _ {P N K L W I O C : Type 0} (place : PlaceGhosts P K) (G : Ghosts K) (net : NetGhosts N L W I O C) (listen : ListenGhosts L I O) (source : SourceGhosts I) (sink : SinkGhosts O) where
   -- these listeners were served side by side
-  abbrev pub AreServed : AccountsServed → Seated K → List L → Seated K → List L → Type 0
+  abbrev pub AreServed : AccountsServed → DeskState K → List L → DeskState K → List L → Type 0
   AreServed accounts = Together G listen source sink accounts
 
   -- The listeners of the net were served side by side at a desk, which was opened with the book that the store kept, and closed with the
@@ -38,8 +38,8 @@ module _ {P N K L W I O C : Type 0} (place : PlaceGhosts P K) (G : Ghosts K) (ne
   -- give, and came back to it.
   pub record ServeRun (old new : P) (before after : N) (store : List ℕ) (options : ServeOptions) : Type 0 where
     pub accounts : AccountsServed
-    pub opened : Seated K
-    pub now : Seated K
+    pub opened : DeskState K
+    pub now : DeskState K
     pub givens : List L
     pub backs : List L
     pub begins : Begins (change place store old new) (served G.faults opened)

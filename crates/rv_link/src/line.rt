@@ -144,9 +144,10 @@ impl<S: Read + Write + Drop> Line<S> {
         }
     }
 
-    /// Reads what the client has sent, as far as its stream gives it at once, and lets go of it. It fails where that is a close or the
-    /// end of the stream, or breaks the protocol, where reading fails, and where the line isn't open.
-    pub(crate) fn find(&mut self) -> Result<(), Failed>
+    /// Reads what the client has sent, as far as its stream gives it at once, up to 64 messages, and lets go of it. Answers whether that
+    /// was all of it. It fails where that is a close or the end of the stream, or breaks the protocol, where reading fails, and where the
+    /// line isn't open.
+    pub(crate) fn find(&mut self) -> Result<bool, Failed>
         ensures { OnOk result (IsOpen self.new) }
     {
         let Line::Open(socket) = self else {
@@ -157,12 +158,12 @@ impl<S: Read + Write + Drop> Line<S> {
                 Ok(Message::Close(_)) => return Err(Failed),
                 Ok(_) => {}
                 Err(Error::Io(error)) if error.kind() == io::ErrorKind::WouldBlock => {
-                    return Ok(());
+                    return Ok(true);
                 }
                 Err(_) => return Err(Failed),
             }
         }
-        Ok(())
+        Ok(false)
     }
 
     /// Sends a close with a status code and no reason.

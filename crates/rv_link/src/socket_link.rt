@@ -1,5 +1,5 @@
 // A link that speaks WebSocket.
-ghost use Rattle.std.specs.Prelude.{◌≡◌};
+ghost use Rattle.std.specs.Prelude.{◌≡◌, false};
 ghost use Rattle.rv_base.specs.Causes.{HasCause};
 ghost use Rattle.rv_link.specs.declared.line.Line.TheVariants.{Fresh};
 
@@ -27,6 +27,8 @@ use std::io::{Read, Write};
 #[derive(Drop)]
 pub struct SocketLink<S> {
     line: Line<S>,
+    /// Whether all that the client had sent was read as it was last looked for.
+    pub read_all: bool,
     /// How often its client was looked for and was there. It stands still at 2^64 - 1.
     pub found: u64,
     /// How often a call has failed. It stands still at 2^64 - 1.
@@ -36,10 +38,11 @@ pub struct SocketLink<S> {
 impl<S> SocketLink<S> {
     /// A link over a stream whose handshake is still to come.
     pub fn new(stream: S) -> SocketLink<S>
-        ensures { result ≡ record { line = Fresh stream; found = 0; faults = 0 } }
+        ensures { result ≡ record { line = Fresh stream; read_all = false; found = 0; faults = 0 } }
     {
         SocketLink {
             line: Line::Fresh(stream),
+            read_all: false,
             found: 0,
             faults: 0,
         }
@@ -107,7 +110,8 @@ impl<S: Read + Write + Drop> PokeLink for SocketLink<S> {
         ensures open { OnOk result (IsOpen self.new.line) }
     {
         match self.line.find() {
-            Ok(()) => {
+            Ok(read_all) => {
+                self.read_all = read_all;
                 self.found = self.found.saturating_add(1);
                 Ok(())
             }

@@ -1,6 +1,6 @@
 -- A run after some of its requests, at a desk.
 use Rattle.std.proofs.Common.{◌≡◌, ℕ, ◌+◌, ◌-◌, ◌^◌, ◌<◌, ◌≤◌, List, [], ◌∷◌, ◌++◌, length, refl, sym, ap, ◌∙◌, subst, arith, append-nil}
-use Rattle.rv_desk.specs.Seated.{Seated, served}
+use Rattle.rv_desk.specs.DeskStates.{DeskState, served}
 use Rattle.rv_keeper.specs.declared.keeper.Keeper.{Ghosts}
 use Rattle.rv_turns.specs.declared.outcome.Outcome.{Outcome}
 use Rattle.rv_make.specs.declared.counts.AnswerCounts.{AnswerCounts}
@@ -18,7 +18,7 @@ use Rattle.rv_make.proofs.PlayLaws.{answers_more, answers_room, takes_more, leng
 
 -- The first requests were taken, so many, and these are the counts of their outcomes; the generator makes those that are left. The keeper
 -- fails no more.
-pub record IsMidway {K : Type 0} (G : Ghosts K) (seed n index : ℕ) (making : Making) (devices : Three Device) (counts : AnswerCounts) (desk : Seated K) : Type 0 where
+pub record IsMidway {K : Type 0} (G : Ghosts K) (seed n index : ℕ) (making : Making) (devices : Three Device) (counts : AnswerCounts) (desk : DeskState K) : Type 0 where
   pub before : List MadeRequest
   pub outcomes : List Outcome
   pub run : TakesRequests first_scene before outcomes (record { server = served G.faults desk; devices = devices })
@@ -33,7 +33,7 @@ whole n = omega arith
 
 module _ {K : Type 0} (G : Ghosts K) (seed n : ℕ) where
   -- at first none was taken
-  pub midway_first : (making : Making) (devices : Three Device) (counts : AnswerCounts) (desk : Seated K) → making ≡ started seed → devices ≡ first_devices → counts ≡ no_counts → served G.faults desk ≡ fresh → G.fails_no_more desk.keeper
+  pub midway_first : (making : Making) (devices : Three Device) (counts : AnswerCounts) (desk : DeskState K) → making ≡ started seed → devices ≡ first_devices → counts ≡ no_counts → served G.faults desk ≡ fresh → G.fails_no_more desk.keeper
       → IsMidway G seed n 0 making devices counts desk
   midway_first making devices counts desk starts first none is steady = record {
     before = [];
@@ -47,7 +47,7 @@ module _ {K : Type 0} (G : Ghosts K) (seed n : ℕ) where
   }
 
   -- one more is taken
-  pub midway_on : (index : ℕ) (making next : Making) (devices later : Three Device) (counts more : AnswerCounts) (desk new : Seated K) (request : MadeRequest) → index < n
+  pub midway_on : (index : ℕ) (making next : Making) (devices later : Three Device) (counts more : AnswerCounts) (desk new : DeskState K) (request : MadeRequest) → index < n
       → IsMidway G seed n index making devices counts desk → request ≡ (next_made making).0 → next ≡ (next_made making).1 → PlaysOne G desk devices counts request new later more
       → IsMidway G seed n (index + 1) next later more new
   midway_on index making next devices later counts more desk new request lt m asked then one = record {
@@ -62,17 +62,17 @@ module _ {K : Type 0} (G : Ghosts K) (seed n : ℕ) where
   }
 
   -- the generator may go on, and so may the counts
-  pub midway_makes : (index : ℕ) (making : Making) (devices : Three Device) (counts : AnswerCounts) (desk : Seated K) → index < n → n < 2 ^ 32 → IsMidway G seed n index making devices counts desk → making.made < 2 ^ 32 - 1
+  pub midway_makes : (index : ℕ) (making : Making) (devices : Three Device) (counts : AnswerCounts) (desk : DeskState K) → index < n → n < 2 ^ 32 → IsMidway G seed n index making devices counts desk → making.made < 2 ^ 32 - 1
   midway_makes index making devices counts desk lt fits m = omega (arith, m.made)
 
-  pub midway_counts : (index : ℕ) (making : Making) (devices : Three Device) (counts : AnswerCounts) (desk : Seated K) → index < n → n < 2 ^ 32 → IsMidway G seed n index making devices counts desk → MayCount counts
+  pub midway_counts : (index : ℕ) (making : Making) (devices : Three Device) (counts : AnswerCounts) (desk : DeskState K) → index < n → n < 2 ^ 32 → IsMidway G seed n index making devices counts desk → MayCount counts
   midway_counts index making devices counts desk lt fits m = answers_room m.outcomes counts m.counted (omega (arith, m.many))
 
   all_before : (before : List MadeRequest) (making : Making) (left : ℕ) (all : List MadeRequest) → left ≡ 0 → before ++ made_from left making ≡ all → before ≡ all
   all_before before making left all none is = sym (append-nil before) ∙ subst (λ (k : ℕ). before ++ made_from k making ≡ all) none is
 
   -- at the end all are taken
-  pub midway_last : (index : ℕ) (making : Making) (devices : Three Device) (counts : AnswerCounts) (desk : Seated K) → n ≤ index → IsMidway G seed n index making devices counts desk → PlaysAll G seed n devices counts desk
+  pub midway_last : (index : ℕ) (making : Making) (devices : Three Device) (counts : AnswerCounts) (desk : DeskState K) → n ≤ index → IsMidway G seed n index making devices counts desk → PlaysAll G seed n devices counts desk
   midway_last index making devices counts desk le m = record {
     outcomes = m.outcomes;
     run = subst (λ (l : List MadeRequest). TakesRequests first_scene l m.outcomes (record { server = served G.faults desk; devices = devices })) (all_before m.before making (n - index) (requests seed n) (omega arith) m.left) m.run;

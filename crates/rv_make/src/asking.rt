@@ -1,6 +1,6 @@
 // The turn of a request that was made.
 ghost use Rattle.std.specs.Prelude.{◌≡◌, IfOk};
-ghost use Rattle.rv_desk.specs.Seated.{DeskTakes};
+ghost use Rattle.rv_desk.specs.DeskStates.{DeskTakes};
 ghost use Rattle.rv_make.specs.Asking.{maker, asks_by, ask_for};
 ghost use Rattle.rv_make.specs.Devices.{user_number};
 ghost use Rattle.rv_make.specs.declared.made.MadeRequest.TheVariants as requests;

@@ -224,6 +224,8 @@ fn push_of(alloc: Global, user: u32, id: u32, push: DrawnPush) -> Result<MadeReq
 }
 
 /// The first `n` requests that a seed makes.
+///
+/// Nothing in the program calls it, which plays them one by one: it is for who wants them as a list.
 pub fn make_requests(alloc: Global, seed: u32, n: u32) -> Result<Requests, Memory>
     ensures { IfOk result (λ made. made ≡ requests seed n) }
 {

@@ -1,6 +1,6 @@
 // Runs of the requests that a seed makes.
 ghost use Rattle.std.specs.Prelude.{◌≡◌, [], length, IfOk, OnOk};
-ghost use Rattle.rv_desk.specs.Seated.{served};
+ghost use Rattle.rv_desk.specs.DeskStates.{served};
 ghost use Rattle.rv_keeper.specs.Keeping.{holding};
 ghost use Rattle.rv_make.specs.Answered.{lacked_memory, no_counts, MayCount};
 ghost use Rattle.rv_make.specs.Devices.{first_devices, told_so};

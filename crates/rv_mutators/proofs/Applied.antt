@@ -6,8 +6,8 @@ use Rattle.std.specs.Option.{option_map, option_map_or, is_some}
 use Rattle.std.proofs.lemmas.Slice.Eq.{bytes_eq-Decides}
 use Rattle.std.proofs.lemmas.Map.Entries.{option_filter}
 use Rattle.rv_base.specs.Sorted.{find_by, InOrder}
-use Rattle.rv_base.specs.Positions.{Above, equals, not_same, find_put, find_without, in_order-put, in_order-without, in_order-sorted, in_order-filter, found-sorted}
-use Rattle.rv_base.specs.Arranged.{distinct-in_order, in_order-same, find-filter, find-map}
+use Rattle.rv_base.specs.PositionLaws.{Above, equals, not_same, find_put, find_without, in_order-put, in_order-without, in_order-sorted, in_order-filter, found-sorted}
+use Rattle.rv_base.specs.ArrangedLaws.{distinct-in_order, in_order-same, find-filter, find-map}
 use Rattle.rv_rows.specs.declared.key.Key.{Key}
 use Rattle.rv_rows.specs.declared.row.Row.{Row}
 use Rattle.rv_rows.specs.Keys.{key_text, row_key, row_text, has_row, in_key_order}

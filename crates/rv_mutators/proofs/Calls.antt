@@ -6,8 +6,8 @@ use Rattle.std.specs.List.{filter, list_any}
 use Rattle.std.specs.Option.{option_map, option_map_or, is_some}
 use Rattle.std.proofs.lemmas.List.Elements.{filter_agree}
 use Rattle.rv_base.specs.Sorted.{find_by, InOrder}
-use Rattle.rv_base.specs.Positions.{equals, found-any, found-map, none_found}
-use Rattle.rv_base.specs.Arranged.{find-map}
+use Rattle.rv_base.specs.PositionLaws.{equals, found-any, found-map, none_found}
+use Rattle.rv_base.specs.ArrangedLaws.{find-map}
 use Rattle.rv_rows.specs.declared.key.Kind.TheVariants as kinds
 use Rattle.rv_rows.specs.declared.role.Role.{Role}
 use Rattle.rv_rows.specs.declared.row.Row.{Row}

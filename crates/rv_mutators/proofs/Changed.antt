@@ -6,8 +6,8 @@ use Rattle.std.specs.List.{filter, list_any}
 use Rattle.std.specs.Option.{option_map_or, is_some}
 use Rattle.std.proofs.lemmas.Map.Entries.{option_filter}
 use Rattle.rv_base.specs.Sorted.{find_by, put_by, InOrder}
-use Rattle.rv_base.specs.Positions.{equals, find_put, in_order-put, in_order-filter, found-sorted}
-use Rattle.rv_base.specs.Arranged.{distinct-in_order, in_order-same, sorted-in_order, sorted-push, find-filter, find-changed, in_order-map}
+use Rattle.rv_base.specs.PositionLaws.{equals, find_put, in_order-put, in_order-filter, found-sorted}
+use Rattle.rv_base.specs.ArrangedLaws.{distinct-in_order, in_order-same, sorted-in_order, sorted-push, find-filter, find-changed, in_order-map}
 use Rattle.rv_rows.specs.declared.key.Key.{Key}
 use Rattle.rv_rows.specs.declared.row.Row.{Row}
 use Rattle.rv_rows.specs.Keys.{row_key, row_text, in_key_order}

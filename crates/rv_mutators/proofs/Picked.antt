@@ -7,8 +7,8 @@ use Rattle.std.proofs.lemmas.Slice.Eq.{bytes_eq-Decides}
 use Rattle.std.proofs.lemmas.Option.{same_Some}
 use Rattle.std.proofs.lemmas.Map.Entries.{option_filter}
 use Rattle.rv_base.specs.Sorted.{find_by, InOrder}
-use Rattle.rv_base.specs.Positions.{find_above, in_order-filter}
-use Rattle.rv_base.specs.Arranged.{distinct-in_order, in_order-same, find-filter}
+use Rattle.rv_base.specs.PositionLaws.{find_above, in_order-filter}
+use Rattle.rv_base.specs.ArrangedLaws.{distinct-in_order, in_order-same, find-filter}
 
 -- by cases on a test, with what it says
 pub by_flag : (P : Bool → Type 0) (b : Bool) → (b ≡ true → P true) → (b ≡ false → P false) → P b

@@ -4,7 +4,7 @@ use Rattle.std.specs.Prelude.{IfOk}
 use Rattle.std.specs.Str.{bytes_eq}
 use Rattle.std.specs.List.{list_any}
 use Rattle.std.proofs.lemmas.List.{take_more}
-use Rattle.rv_base.specs.Positions.{equals}
+use Rattle.rv_base.specs.PositionLaws.{equals}
 use Rattle.rv_rows.specs.declared.row.Row.{Row}
 use Rattle.rv_rows.specs.declared.row.ExtentRow.{ExtentRow}
 use Rattle.rv_rows.specs.declared.row.ListRow.{ListRow}
@@ -13,7 +13,7 @@ use Rattle.rv_rows.specs.declared.row.TodoRow.{TodoRow}
 use Rattle.rv_rows.specs.declared.row.Row.TheVariants as variants
 use Rattle.rv_rows.specs.Sharing.{may_see, is_synced, is_list, owns, shares}
 use Rattle.rv_sharing.specs.Texts.{AddsText, AddsTextIf}
-use Rattle.rv_sharing.specs.SameTexts.{same_either_way, at_same}
+use Rattle.rv_sharing.specs.SameTextLaws.{same_either_way, at_same}
 use Rattle.rv_sharing.specs.Sharers.{AddsSharers}
 use Rattle.rv_sharing.specs.Affected.{AddsViewers}
 use Rattle.rv_mutators.specs.Touched.{sees_with, AddsReaders, AddsReadersOf}

@@ -7,8 +7,8 @@ use Rattle.std.specs.Option.{option_map_or}
 use Rattle.std.proofs.lemmas.Option.{none-some, same_Some}
 use Rattle.std.proofs.lemmas.Slice.Eq.{bytes_eq-Decides}
 use Rattle.rv_base.specs.Sorted.{find_by, InOrder}
-use Rattle.rv_base.specs.Positions.{equals, found-any, none_found, found-sorted, find_put}
-use Rattle.rv_base.specs.Arranged.{distinct-in_order, distinct-push, sorted-in_order, sorted-push, find-changed, in_order-map}
+use Rattle.rv_base.specs.PositionLaws.{equals, found-any, none_found, found-sorted, find_put}
+use Rattle.rv_base.specs.ArrangedLaws.{distinct-in_order, distinct-push, sorted-in_order, sorted-push, find-changed, in_order-map}
 use Rattle.rv_rows.specs.declared.key.Key.{Key}
 use Rattle.rv_rows.specs.declared.key.Kind.TheVariants as kinds
 use Rattle.rv_rows.specs.declared.role.Role.{Role}

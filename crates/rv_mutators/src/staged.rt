@@ -71,8 +71,7 @@ impl Staged {
         requires { IsStagedOn tables.now.rows self.now }
         ensures { IfOk result (AreTouched tables.now.rows self.now) }
     {
-        // `iter` tells that the rows stand in order
-        let _in_order = tables.iter();
+        tables.fits();
         let users = affected(alloc, tables, self.keys.as_slice())?;
         add_readers(alloc, users, tables, self.rows.as_slice())
     }

@@ -21,8 +21,7 @@ pub fn stage(alloc: Global, tables: &mut Tables, user: &User, call: &Call) -> Re
     ensures staged { IfOk result (λ s. s ≡ staged (rows_in tables.old.rows) user.now call.now) }
     ensures effect { IfOk result (λ s. (version : ℕ) → with_staged version s tables.old.rows ≡ after tables.old.rows user.now call.now version) }
 {
-    // `iter` tells that the rows stand in order
-    let _in_order = tables.iter();
+    tables.fits();
     let staged = changes(alloc, tables, user, call)?;
     tables.reserve(staged.rows.len())?;
     Ok(staged)

@@ -1,4 +1,3 @@
 pub mod Accepting
 pub mod Listed
 pub mod Giving
-pub mod Stocks

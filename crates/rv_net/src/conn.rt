@@ -1,4 +1,4 @@
-use rv_base::{MemorySink, MemorySource, Sink, Source};
+use rv_base::{Sink, Source};
 
 /// A connection: where its bytes come from, and where the answers go.
 #[derive(Drop)]
@@ -8,6 +8,3 @@ pub struct Conn<S: Source, O: Sink> {
     /// Where the answers go.
     pub sink: O,
 }
-
-/// A connection in memory.
-pub type MemoryConn = Conn<MemorySource, MemorySink>;

@@ -2,8 +2,8 @@
 //!
 //! A [`Net`] gives listeners at a port, and a [`Listen`] gives its connections one after another, until none is to come.
 //! A [`Conn`] has two halves: where its bytes come from, and where the answers go. A [`PokeListen`] gives the links of clients that want
-//! pokes, in the same way. What was given goes back when it is served. [`MemoryNet`] and [`MemoryListen`] tell what they give and what
-//! came back; [`TcpNet`], [`TcpListen`] and [`TcpLink`] are over the sockets of the machine, of which nothing is told.
+//! pokes, in the same way. What was given goes back when it is served. [`TcpNet`], [`TcpListen`] and [`TcpLink`] are over the sockets of
+//! the machine, of which nothing is told.
 #![tactic(auto)]
 
 mod accepted;
@@ -12,10 +12,6 @@ mod conn;
 mod lingering;
 mod listen;
 mod listeners;
-mod memory_giving;
-mod memory_listen;
-mod memory_net;
-mod memory_stock;
 mod net;
 mod patience;
 mod poke_listen;
@@ -26,13 +22,10 @@ mod wanted;
 
 pub use accepted::Accepted;
 pub use awaited::Awaited;
-pub use conn::{Conn, MemoryConn};
+pub use conn::Conn;
 pub use lingering::LINGER_SECONDS;
 pub use listen::Listen;
 pub use listeners::Listeners;
-pub use memory_listen::MemoryListen;
-pub use memory_net::{MemoryNet, MemoryPokes};
-pub use memory_stock::MemoryStock;
 pub use net::Net;
 pub use poke_listen::PokeListen;
 pub use tcp_link::{KEY_SECONDS, TcpLink};

@@ -46,14 +46,30 @@ impl TcpLink {
         })
     }
 
-    // Looks for the client without waiting.
-    fn look(&mut self) -> Result<(), Failed>
+    // Whether nothing has come since all was read that the client had sent. Where the stream doesn't block.
+    fn is_quiet(&self) -> bool {
+        if !self.link.read_all {
+            return false;
+        }
+        let mut byte = [0];
+        match self.stream.peek(&mut byte) {
+            Ok(_) => false,
+            Err(error) => error.kind() == io::ErrorKind::WouldBlock,
+        }
+    }
+
+    // Looks for the client without waiting. It is there where nothing has come.
+    fn seek(&mut self) -> Result<(), Failed>
         ensures others { (self.new.found ≡ self.old.found) × (self.new.faults ≡ self.old.faults) }
     {
         if self.stream.set_nonblocking(true).is_err() {
             return Err(Failed);
         }
-        let found = self.link.find();
+        let found = if self.is_quiet() {
+            Ok(())
+        } else {
+            self.link.find()
+        };
         if self.stream.set_nonblocking(false).is_err() {
             return Err(Failed);
         }
@@ -93,7 +109,7 @@ impl PokeLink for TcpLink {
     }
 
     fn send_poke(&mut self) -> Result<(), Failed> {
-        let sent = match self.look() {
+        let sent = match self.seek() {
             Ok(()) => self.link.send_poke(),
             Err(Failed) => Err(Failed),
         };
@@ -101,7 +117,7 @@ impl PokeLink for TcpLink {
     }
 
     fn find(&mut self) -> Result<(), Failed> {
-        match self.look() {
+        match self.seek() {
             Ok(()) => {
                 self.found = self.found.saturating_add(1);
                 Ok(())
@@ -111,7 +127,7 @@ impl PokeLink for TcpLink {
     }
 
     fn ping(&mut self) -> Result<(), Failed> {
-        let sent = match self.look() {
+        let sent = match self.seek() {
             Ok(()) => self.link.ping(),
             Err(Failed) => Err(Failed),
         };

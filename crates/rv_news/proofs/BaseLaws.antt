@@ -10,7 +10,7 @@ use Rattle.rv_book.specs.Book.{Book, size}
 use Rattle.rv_book.specs.Kept.{kept, look_at}
 use Rattle.rv_book.specs.LookLaws.{look_at-within}
 use Rattle.rv_history.specs.Bases.{names_base}
-use Rattle.rv_history.specs.Based.{first_and, last_and, by_look, some_look}
+use Rattle.rv_history.specs.BasedLaws.{first_and, last_and, by_look, some_look}
 
 -- where no number of the range does
 find_nowhere : (p : ℕ → Bool) (a n : ℕ) → ((k : ℕ) → a ≤ k → k < a + n → p k ≡ false) → find p (range_with_len a n) ≡ None

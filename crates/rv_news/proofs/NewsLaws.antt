@@ -23,10 +23,10 @@ use Rattle.rv_news.specs.Records.{IsRecord, Placed, record_at, AreRecords}
 use Rattle.rv_news.specs.News.{IsBaseRecord, IsNews}
 use Rattle.rv_history.specs.Machine.{IsUnchanged}
 use Rattle.rv_news.specs.Shows.{put_of, ops_of}
-use Rattle.rv_history.specs.Based.{base_look}
+use Rattle.rv_history.specs.BasedLaws.{base_look}
 use Rattle.rv_news.proofs.Difference.{patch_anew_by_keys}
 use Rattle.rv_news.proofs.RecordLaws.{record_difference, record_ids}
-use Rattle.rv_news.specs.KeptRecords.{record_found}
+use Rattle.rv_news.specs.KeptRecordLaws.{record_found}
 
 -- a record is of its look's user
 pub record_user : (book : Book) (place : ℕ) (viewed : Viewed) (user group : List ℕ) (order : ℕ) (r : IsRecord book place viewed) → look_at place book ≡ Some (user, group, order) → r.user ≡ user

@@ -7,7 +7,7 @@ use Rattle.rv_rows.specs.Keys.{row_text}
 use Rattle.rv_rows.specs.Held.{Stored, stored_key, find}
 use Rattle.rv_book.specs.declared.entry.Entry.{Entry}
 use Rattle.rv_book.specs.Book.{Book, since, size, up_to, with_entry, with_entries}
-use Rattle.rv_book.specs.BookWords.{size-with_entry, up_to-since, with_entry-more, size-with_entries}
+use Rattle.rv_book.specs.BookWordLaws.{size-with_entry, up_to-since, with_entry-more, size-with_entries}
 use Rattle.rv_history.specs.Replay.{rows_of, IsPageVersion, Wrote, IsLastWrite, IsReplay}
 use Rattle.rv_history.specs.History.{is_written, is_touched}
 use Rattle.rv_history.specs.ReplayLaws.{wrote_more, wrote_less, last_within, last_write_unique, all_found}

@@ -1,9 +1,9 @@
 pub mod Records
 pub mod RecordLaws
-pub mod KeptRecords
+pub mod KeptRecordLaws
 pub mod Shows
 pub mod News
 pub mod TouchLaws
-pub mod SinceMark
+pub mod SinceMarkLaws
 pub mod UnchangedLaws
-pub mod ExtentMarks
+pub mod ExtentMarkLaws

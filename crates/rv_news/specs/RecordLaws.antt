@@ -8,10 +8,10 @@ use Rattle.rv_book.specs.declared.entry.Entry.TheVariants.{Act, Look}
 use Rattle.rv_book.specs.Entries.{retires}
 use Rattle.rv_book.specs.Book.{Book, retired, size, with_entry}
 use Rattle.rv_book.specs.Kept.{look_at, is_look_of, later_looks, kept}
-use Rattle.rv_book.specs.BookWords.{up_to-end, up_to-with_entry}
+use Rattle.rv_book.specs.BookWordLaws.{up_to-end, up_to-with_entry}
 use Rattle.rv_book.specs.LookLaws.{look_at-within, look_at-with_entry, look_at-end, kept-look, kept-none, kept-with_entry}
 use Rattle.rv_news.specs.Records.{IsViewAt, IsRecord}
-use Rattle.rv_history.specs.LookIds.{ids_look}
+use Rattle.rv_history.specs.LookIdLaws.{ids_look}
 use Rattle.rv_history.specs.ReplayLaws.{replay_look}
 
 -- a record stays that of its look while the look is kept

@@ -7,7 +7,7 @@ use Rattle.rv_rows.specs.Changes.{same_row}
 use Rattle.rv_rows.specs.EffectLaws.{same_row-Decides}
 use Rattle.rv_book.specs.declared.entry.Entry.{Entry}
 use Rattle.rv_book.specs.Book.{Book, size, with_entry, with_entries}
-use Rattle.rv_book.specs.BookWords.{size-with_entry, up_to-before, up_to-end, with_entry-more}
+use Rattle.rv_book.specs.BookWordLaws.{size-with_entry, up_to-before, up_to-end, with_entry-more}
 use Rattle.rv_history.specs.Replay.{rows_of, Wrote}
 use Rattle.rv_history.specs.History.{is_written, is_touched}
 use Rattle.rv_history.specs.ReplayLaws.{At, rows_of-with_entry, wrote_more}

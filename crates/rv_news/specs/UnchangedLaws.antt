@@ -6,7 +6,7 @@ use Rattle.std.specs.Str.{bytes_eq}
 use Rattle.std.proofs.lemmas.List.Elements.{filter_map-append}
 use Rattle.std.proofs.lemmas.Option.{same_Some, slice_get-get_or}
 use Rattle.std.proofs.lemmas.Slice.Eq.{bytes_eq-Decides}
-use Rattle.rv_base.specs.Positions.{equals}
+use Rattle.rv_base.specs.PositionLaws.{equals}
 use Rattle.rv_base.specs.Sorted.{sorted_by}
 use Rattle.rv_rows.specs.declared.row.Row.{Row}
 use Rattle.rv_rows.specs.declared.call.Call.{Call}
@@ -22,12 +22,12 @@ use Rattle.rv_book.specs.declared.entry.Entry.TheVariants.{Act, Look, Retire}
 use Rattle.rv_book.specs.Entries.{is_act_of}
 use Rattle.rv_book.specs.Members.{acting_group}
 use Rattle.rv_book.specs.Book.{Book, acting_client, belongs, bound, client_in, clients_named, entry_at, group_of, ids, last, since, size, up_to, with_entries, with_entry}
-use Rattle.rv_book.specs.BookWords.{clients_named-with_entry, size-up_to, entry_at-index, entry_at-within, last-with_entry, since-entry, size-with_entry, up_to-all, up_to-since, up_to-with_entries, with_entry-more}
+use Rattle.rv_book.specs.BookWordLaws.{clients_named-with_entry, size-up_to, entry_at-index, entry_at-within, last-with_entry, since-entry, size-with_entry, up_to-all, up_to-since, up_to-with_entries, with_entry-more}
 use Rattle.rv_book.specs.Kept.{is_look_at, kept, look_at, look_of}
 use Rattle.rv_book.specs.LookLaws.{look_at-within}
 use Rattle.rv_book.specs.RegisterLaws.{NoneBut, group_of-push, none_but}
 use Rattle.rv_history.specs.Bases.{base_group, base_of}
-use Rattle.rv_history.specs.Based.{base_look}
+use Rattle.rv_history.specs.BasedLaws.{base_look}
 use Rattle.rv_history.specs.GroupLaws.{owner_is}
 use Rattle.rv_history.specs.Groups.{is_elsewhere}
 use Rattle.rv_history.specs.History.{ids_since, is_absent, is_among, is_news, is_touched, patch_since}
@@ -37,7 +37,7 @@ use Rattle.rv_history.specs.Marks.{IsMark}
 use Rattle.rv_history.specs.PatchLaws.{absent_is, news_present, seen_in_order}
 use Rattle.rv_history.specs.Replay.{rows_of, Wrote}
 use Rattle.rv_history.specs.ReplayLaws.{each_found}
-use Rattle.rv_news.specs.SinceMark.{acts_since, seen_since, write_concerns}
+use Rattle.rv_news.specs.SinceMarkLaws.{acts_since, seen_since, write_concerns}
 use Rattle.rv_news.specs.TouchLaws.{IsWrittenAfter, touched_after}
 
 -- a filter leaves nothing where nothing passes

@@ -50,7 +50,7 @@ fn named(book: &Book, user: &User, text: &str, order: Num) -> Option<u32>
     ensures { result ≡ find (names_base user.now text.now order book.now.book) (range_with_len 1 (size book.now.book)) }
 {
     // so that the book's length is known to be below 2^32, as a place is
-    let _length = book.len();
+    book.fits();
     let place = place_of(text)?;
     if is_kept(book, user, order, place) {
         Some(place)

@@ -5,7 +5,7 @@ ghost use Rattle.rv_history.specs.Bases.{base_of};
 ghost use Rattle.rv_history.specs.Lawful.{IsLawful};
 ghost use Rattle.rv_history.specs.Machine.{IsUnchanged};
 ghost use Rattle.rv_history.specs.Marks.{IsMark};
-ghost use Rattle.rv_history.specs.Reading.{pull_entries};
+ghost use Rattle.rv_history.specs.Reading.{pull_steps};
 ghost use Rattle.rv_history.specs.Replay.{IsReplay};
 ghost use Rattle.rv_news.specs.News.{IsNews, IsTold, is_base_since};
 ghost use Rattle.rv_news.specs.Records.{AreRecords, Rise, record_at};
@@ -43,7 +43,7 @@ pub fn news_for<L: Ledger>(
     requires mark { IsMark user.now book.now.book mark }
     ensures told { IfOk result (IsTold book.now.book user.now request.now) }
     ensures since { IsTrue (is_base_since mark user.now request.now book.now.book) → (result ≡ Ok None) × (steps.new ≡ steps.old) }
-    ensures most { steps.new ≤ steps.old + pull_entries user.now request.now book.now.book }
+    ensures most { steps.new ≤ steps.old + pull_steps user.now request.now book.now.book }
 {
     let base = base_of(book, user, &request.cookie);
     if is_since(book, user, request, base, mark) {
@@ -72,7 +72,7 @@ fn news_walked<L: Ledger>(
     requires records { AreRecords book.now.book records.now.records }
     requires base { base ≡ base_of user.now request.now.cookie book.now.book }
     ensures news { IfOk result (λ news. IsNews book.now.book user.now request.now news) }
-    ensures most { steps.new ≤ steps.old + pull_entries user.now request.now book.now.book }
+    ensures most { steps.new ≤ steps.old + pull_steps user.now request.now book.now.book }
 {
     let clients = clients_read(alloc, book, &request.group, steps)?;
     let rows = rows_seen(alloc, tables, user, steps)?;

@@ -1,7 +1,7 @@
 ghost use Rattle.std.specs.Prelude.{◌≡◌, ◌≤◌, ◌==◌, not, ◌+◌, ◌++◌, ◌∷◌, [], ℕ, option_map, OnOk};
 ghost use Rattle.std.specs.List.{filter};
 ghost use Rattle.rv_book.specs.Kept.{kept};
-ghost use Rattle.rv_book.specs.LookLaws.{is_place};
+ghost use Rattle.rv_book.specs.Kept.{is_place};
 ghost use Rattle.rv_news.specs.Records.{Locates, Rise, record_at};
 
 use rv_base::Memory;

@@ -48,13 +48,13 @@ fn refused(error: io::Error) -> Fault
     }
 }
 
-// What is told of a look for a file: it is there; or it isn't, which is a fault, or the look was refused.
-fn found_by(look: io::Result<bool>) -> Result<(), Fault>
-    ensures there { IsOk result ↔ look ≡ Ok true }
-    ensures missing { look ≡ Ok false → result ≡ Err fault.Failed }
-    ensures refused { IfErr look (λ error. (result ≡ Err fault.Memory) ↔ (error_kind error ≡ kinds.OutOfMemory)) }
+// What is told of a search for a file: it is there; or it isn't, which is a fault, or the search was refused.
+fn found_by(found: io::Result<bool>) -> Result<(), Fault>
+    ensures there { IsOk result ↔ found ≡ Ok true }
+    ensures missing { found ≡ Ok false → result ≡ Err fault.Failed }
+    ensures refused { IfErr found (λ error. (result ≡ Err fault.Memory) ↔ (error_kind error ≡ kinds.OutOfMemory)) }
 {
-    match look {
+    match found {
         Ok(true) => Ok(()),
         Ok(false) => Err(Fault::Failed),
         Err(error) => Err(refused(error)),

@@ -11,11 +11,11 @@ use Rattle.std.specs.Ordering.{nat_cmp}
 use Rattle.std.specs.Cmp.Lexicographic.{slice_cmp}
 use Rattle.std.specs.Str.{bytes_eq}
 use Rattle.rv_base.specs.Sorted.{find_by, put_by, sorted_by, InOrder}
-use Rattle.rv_base.specs.Positions.{found-any, found-sorted, in_order-sorted}
-use Rattle.rv_base.specs.Arranged.{in_order-same, sorted-in_order, sorted-push}
+use Rattle.rv_base.specs.PositionLaws.{found-any, found-sorted, in_order-sorted}
+use Rattle.rv_base.specs.ArrangedLaws.{in_order-same, sorted-in_order, sorted-push}
 use Rattle.rv_book.specs.Book.{Book, belongs, bound, client_in, group_of, last, last_order, retired}
 use Rattle.rv_book.specs.Registers.{client_named, group_named}
-use Rattle.rv_book.specs.BookWords.{bytes_eq_back}
+use Rattle.rv_book.specs.BookWordLaws.{bytes_eq_back}
 use Rattle.rv_book.specs.RegisterLaws.{find-info}
 
 abbrev pub name : List ℕ → List ℕ

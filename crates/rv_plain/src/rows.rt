@@ -102,6 +102,18 @@ fn ends_any(user: &User, rows: &[Row], id: &Id) -> bool
     rows.iter().any(|row| ends(user, rows, id, row))
 }
 
+// The sort of a todo of the list, and 0 of any other row.
+fn sort_in(list: &Id, row: &Row) -> u64
+    ensures { result ≡ sort_in list.now row.now }
+{
+    match row {
+        Row::Extent(_) => 0,
+        Row::List(_) => 0,
+        Row::Share(_) => 0,
+        Row::Todo(row) => { if row.list == *list { row.sort.get() } else { 0 } }
+    }
+}
+
 // The greatest sort in a list, and 0 where it has no todo.
 #[tactic(auto, using(std::proofs::lemmas::List::Sums::fold_more))]
 fn greatest_sort(list: &Id, rows: &[Row]) -> u64
@@ -109,7 +121,7 @@ fn greatest_sort(list: &Id, rows: &[Row]) -> u64
 {
     let mut most = 0;
     for row in rows {
-        let sort = row.sort_in(list);
+        let sort = sort_in(list, row);
         if most < sort {
             most = sort;
         }

@@ -3,13 +3,10 @@
 //! The first message of a session names its user by an account's key. From then on the session looks at the user's mark, which
 //! [`rv_turns::Marks`] tells, once at the start and once after each ring of a [`Bell`], and sends a poke over its [`PokeLink`]
 //! exactly where the mark is above those before ([`poke_session`]). A poke says nothing but that a pull may have news.
-//! [`MemoryLink`] and [`MemoryBell`] stand in memory, and tell all.
 #![tactic(auto)]
 
 mod bell;
 mod first;
-mod memory_bell;
-mod memory_link;
 mod poke_end;
 mod poke_link;
 mod sent;
@@ -18,8 +15,6 @@ mod waited;
 
 pub use bell::Bell;
 pub use first::First;
-pub use memory_bell::MemoryBell;
-pub use memory_link::MemoryLink;
 pub use poke_end::PokeEnd;
 pub use poke_link::PokeLink;
 pub use sent::Sent;

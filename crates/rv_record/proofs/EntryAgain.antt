@@ -6,7 +6,7 @@ use Rattle.rv_keeper.specs.declared.cell.Cell.{Cell}
 use Rattle.rv_record.specs.CellTexts.{ten_digits, entry_cell}
 use Rattle.rv_record.specs.CellReading.{IsOfNone}
 use Rattle.rv_record.specs.EntryReading.{IsPlace, PlacedFits, body_entry}
-use Rattle.rv_record.specs.EntryCells.{body_entry_again}
+use Rattle.rv_record.specs.EntryCellLaws.{body_entry_again}
 
 abbrev pub entry_cells : ℕ × Entry → Cell
 entry_cells e = entry_cell e.0 e.1

@@ -1,7 +1,9 @@
 pub mod WritingLaws
 pub mod Settling
-pub mod Again
 pub mod PlaceDigits
 pub mod EntryAgain
 pub mod ViewAgain
 pub mod Items
+pub mod Rows
+pub mod Steps
+pub mod Ended

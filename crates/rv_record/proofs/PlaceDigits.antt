@@ -6,7 +6,7 @@ use Rattle.std.proofs.lemmas.Str.{IsUtf8-from_ascii}
 use Rattle.std.proofs.lemmas.Str.Parse.{IsNumeralModel, parse_digits}
 use Rattle.rv_record.specs.CellTexts.{ten_digits}
 use Rattle.rv_record.specs.EntryReading.{IsPlace}
-use Rattle.rv_record.specs.PlaceOrder.{AreDigitsOf, ten_digits-are}
+use Rattle.rv_record.specs.PlaceOrderLaws.{AreDigitsOf, ten_digits-are}
 
 own : IsNumeralModel (AllDigits 10) (digits_value 10)
 own = record { to = λ ds h. h; from = λ ds h. h; same = λ ds h. refl }

@@ -20,8 +20,8 @@ use Rattle.rv_record.specs.CellTexts.{ten_digits, seen_data, client_data, view_b
 use Rattle.rv_record.specs.CellReading.{IsText, IsOfNone}
 use Rattle.rv_record.specs.EntryReading.{IsPlace}
 use Rattle.rv_record.specs.ViewReading.{SeenFits, PairFits, ViewFits, key_in, seen_in, pair_in, viewed, view_in, body_view}
-use Rattle.rv_record.specs.ReadBack.{IsPlain, ArePlain, json_again}
-use Rattle.rv_record.specs.ReadTexts.{within_again, text_again, num_again, place_again, num_plain, place_plain}
+use Rattle.rv_record.specs.ReadBackLaws.{IsPlain, ArePlain, json_again}
+use Rattle.rv_record.specs.ReadTextLaws.{within_again, text_again, num_again, place_again, num_plain, place_plain}
 
 prefix_valid : (kind : Kind) → IsUtf8 (prefix kind)
 prefix_valid kinds.Extent = IsUtf8-are_ascii (codes "extent/") refl

@@ -95,15 +95,15 @@ fn create_todo(alloc: Global, value: &Value<'_>) -> Result<Option<Call>, Memory>
     }))
 }
 
-// The text at a place, or that there is none; `None` where it is neither null nor a text.
+// The text at a position, or that there is none; `None` where it is neither null nor a text.
 fn text_or_null(
     alloc: Global,
     value: &Value<'_>,
-    place: usize,
+    position: usize,
 ) -> Result<Option<Option<Text>>, Memory>
-    ensures { IfOk result (λ o. o ≡ option_and_then (or_null (text_in 0 16384)) (at place (value_data value.now))) }
+    ensures { IfOk result (λ o. o ≡ option_and_then (or_null (text_in 0 16384)) (at position (value_data value.now))) }
 {
-    let Some(found) = item(value, place) else {
+    let Some(found) = item(value, position) else {
         return Ok(None);
     };
     if is_null(found) {
@@ -115,10 +115,10 @@ fn text_or_null(
     }
 }
 
-fn flag_or_null(value: &Value<'_>, place: usize) -> Option<Option<bool>>
-    ensures { result ≡ option_and_then (or_null as_bool) (at place (value_data value.now)) }
+fn flag_or_null(value: &Value<'_>, position: usize) -> Option<Option<bool>>
+    ensures { result ≡ option_and_then (or_null as_bool) (at position (value_data value.now)) }
 {
-    let found = item(value, place)?;
+    let found = item(value, position)?;
     if is_null(found) {
         Some(None)
     } else {
@@ -126,10 +126,10 @@ fn flag_or_null(value: &Value<'_>, place: usize) -> Option<Option<bool>>
     }
 }
 
-fn num_or_null(value: &Value<'_>, place: usize) -> Option<Option<Num>>
-    ensures { result ≡ option_and_then (or_null num_in) (at place (value_data value.now)) }
+fn num_or_null(value: &Value<'_>, position: usize) -> Option<Option<Num>>
+    ensures { result ≡ option_and_then (or_null num_in) (at position (value_data value.now)) }
 {
-    let found = item(value, place)?;
+    let found = item(value, position)?;
     if is_null(found) {
         Some(None)
     } else {
@@ -161,15 +161,15 @@ fn update_todo(alloc: Global, value: &Value<'_>) -> Result<Option<Call>, Memory>
     }))
 }
 
-// The lists at a place, or that there are none; `None` where it is neither null nor an extent's lists.
+// The lists at a position, or that there are none; `None` where it is neither null nor an extent's lists.
 fn lists_or_null(
     alloc: Global,
     value: &Value<'_>,
-    place: usize,
+    position: usize,
 ) -> Result<Option<Option<Lists>>, Memory>
-    ensures { IfOk result (λ o. o ≡ option_and_then (or_null lists_in) (at place (value_data value.now))) }
+    ensures { IfOk result (λ o. o ≡ option_and_then (or_null lists_in) (at position (value_data value.now))) }
 {
-    let Some(found) = item(value, place) else {
+    let Some(found) = item(value, position) else {
         return Ok(None);
     };
     if is_null(found) {

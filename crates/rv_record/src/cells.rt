@@ -18,7 +18,7 @@ use crate::writing::{
 use json::Writer;
 use rv_base::{Bytes, Id, Memory, Num, Sequence, User};
 use rv_book::Entry;
-use rv_keeper::Cell;
+use rv_keeper::{Cell, Shelf};
 use rv_rows::{Call, Row};
 use rv_views::ViewRecord;
 use std::alloc::Global;
@@ -153,7 +153,7 @@ pub fn cell_of_act(
     ensures texts { IfOk result AreTexts }
 {
     Ok(Cell {
-        shelf: 1,
+        shelf: Shelf::Entries.number(),
         key: ten_digits(alloc, place)?,
         body: act_text(alloc, user, group, client, id, call)?,
     })
@@ -173,7 +173,7 @@ pub fn cell_of_look(
     ensures texts { IfOk result AreTexts }
 {
     Ok(Cell {
-        shelf: 1,
+        shelf: Shelf::Entries.number(),
         key: ten_digits(alloc, place)?,
         body: look_text(alloc, user, group, order, base)?,
     })
@@ -185,7 +185,7 @@ pub fn cell_of_retirement(alloc: Global, place: u32, group: &Id) -> Result<Cell,
     ensures texts { IfOk result AreTexts }
 {
     Ok(Cell {
-        shelf: 1,
+        shelf: Shelf::Entries.number(),
         key: ten_digits(alloc, place)?,
         body: retirement_text(alloc, group)?,
     })
@@ -220,7 +220,7 @@ pub fn cell_of_page(alloc: Global, place: u32) -> Result<Cell, Memory>
     ensures texts { IfOk result AreTexts }
 {
     Ok(Cell {
-        shelf: 6,
+        shelf: Shelf::Page.number(),
         key: Sequence::new(alloc),
         body: page_text(alloc, place)?,
     })
@@ -244,7 +244,7 @@ pub fn cell_of_row(alloc: Global, row: &Row, version: u32) -> Result<Cell, Memor
     ensures cell { IfOk result (λ cell. cell ≡ row_cell row.now version) }
     ensures texts { IfOk result AreTexts }
 {
-    row_cell_on(alloc, 2, row, version)
+    row_cell_on(alloc, Shelf::Rows.number(), row, version)
 }
 
 /// The cell of a row of the page that a book opens with, with its version: as [`cell_of_row`], on shelf 7.
@@ -252,7 +252,7 @@ pub fn cell_of_page_row(alloc: Global, row: &Row, version: u32) -> Result<Cell, 
     ensures cell { IfOk result (λ cell. cell ≡ page_row_cell row.now version) }
     ensures texts { IfOk result AreTexts }
 {
-    row_cell_on(alloc, 7, row, version)
+    row_cell_on(alloc, Shelf::PageRows.number(), row, version)
 }
 
 // The cell of a client on a shelf.
@@ -278,7 +278,7 @@ pub fn cell_of_client(alloc: Global, client: &Id, group: &Id, last: Num) -> Resu
     ensures cell { IfOk result (λ cell. cell ≡ client_cell client.now group.now last) }
     ensures texts { IfOk result AreTexts }
 {
-    client_cell_on(alloc, 3, client, group, last)
+    client_cell_on(alloc, Shelf::Clients.number(), client, group, last)
 }
 
 /// The cell of a client of the page that a book opens with: as [`cell_of_client`], on shelf 8.
@@ -291,7 +291,7 @@ pub fn cell_of_page_client(
     ensures cell { IfOk result (λ cell. cell ≡ page_client_cell client.now group.now last) }
     ensures texts { IfOk result AreTexts }
 {
-    client_cell_on(alloc, 8, client, group, last)
+    client_cell_on(alloc, Shelf::PageClients.number(), client, group, last)
 }
 
 // The cell of a group on a shelf.
@@ -325,7 +325,7 @@ pub fn cell_of_group(
     ensures cell { IfOk result (λ cell. cell ≡ group_cell group.now user.now order retired) }
     ensures texts { IfOk result AreTexts }
 {
-    group_cell_on(alloc, 4, group, user, order, retired)
+    group_cell_on(alloc, Shelf::Groups.number(), group, user, order, retired)
 }
 
 /// The cell of a group of the page that a book opens with: as [`cell_of_group`], on shelf 9.
@@ -339,7 +339,14 @@ pub fn cell_of_page_group(
     ensures cell { IfOk result (λ cell. cell ≡ page_group_cell group.now user.now order retired) }
     ensures texts { IfOk result AreTexts }
 {
-    group_cell_on(alloc, 9, group, user, order, retired)
+    group_cell_on(
+        alloc,
+        Shelf::PageGroups.number(),
+        group,
+        user,
+        order,
+        retired,
+    )
 }
 
 /// The cell of the view record of the look at a place, from 1: on shelf 5, under the place in ten digits,
@@ -349,7 +356,7 @@ pub fn cell_of_view(alloc: Global, place: u32, view: &ViewRecord) -> Result<Cell
     ensures texts { IfOk result AreTexts }
 {
     Ok(Cell {
-        shelf: 5,
+        shelf: Shelf::Views.number(),
         key: ten_digits(alloc, place)?,
         body: view_text(alloc, view)?,
     })

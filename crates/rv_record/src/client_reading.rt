@@ -8,7 +8,7 @@ use crate::value_reading::{flag_item, num_item, text_item, text_of_bytes};
 use json::Scratch;
 use rv_base::{Id, Memory, Num, User};
 use rv_json::read_json;
-use rv_keeper::Cell;
+use rv_keeper::{Cell, Shelf};
 use std::alloc::Global;
 
 // What the cell is of, if it is a client's.
@@ -57,6 +57,8 @@ fn client_on(
 
 /// The client whose cell this is, its group, and the last mutation id. Any other cell is `BadCell`.
 ///
+/// Nothing in the program calls it, which compares the cells of a store with ones that it writes anew: it is for who reads a store beside it.
+///
 /// `scratch` is room to read in, which is kept from one text to the next.
 pub fn client_of_cell(
     alloc: Global,
@@ -65,7 +67,7 @@ pub fn client_of_cell(
 ) -> Result<(Id, Id, Num), CellFault>
     ensures { ReadsCell (λ c. client_cell c.0 c.1 c.2) ClientFits cell.now result }
 {
-    client_on(alloc, 3, cell, scratch)
+    client_on(alloc, Shelf::Clients.number(), cell, scratch)
 }
 
 /// The client of a page whose cell this is, its group, and the last mutation id there. Any other cell is `BadCell`.
@@ -78,7 +80,7 @@ pub fn page_client_of_cell(
 ) -> Result<(Id, Id, Num), CellFault>
     ensures { ReadsCell (λ c. page_client_cell c.0 c.1 c.2) ClientFits cell.now result }
 {
-    client_on(alloc, 8, cell, scratch)
+    client_on(alloc, Shelf::PageClients.number(), cell, scratch)
 }
 
 // What the cell is of, if it is a group's.
@@ -131,6 +133,8 @@ fn group_on(
 /// The group whose cell this is, its user, the order of its last look, and whether it is retired. Any other cell is
 /// `BadCell`.
 ///
+/// Nothing in the program calls it, which compares the cells of a store with ones that it writes anew: it is for who reads a store beside it.
+///
 /// `scratch` is room to read in, which is kept from one text to the next.
 pub fn group_of_cell(
     alloc: Global,
@@ -139,7 +143,7 @@ pub fn group_of_cell(
 ) -> Result<(Id, User, Num, bool), CellFault>
     ensures { ReadsCell (λ g. group_cell g.0 g.1 g.2 g.3) GroupFits cell.now result }
 {
-    group_on(alloc, 4, cell, scratch)
+    group_on(alloc, Shelf::Groups.number(), cell, scratch)
 }
 
 /// The group of a page whose cell this is, its user, the order of its last look there, and whether it is retired. Any other cell is
@@ -153,5 +157,5 @@ pub fn page_group_of_cell(
 ) -> Result<(Id, User, Num, bool), CellFault>
     ensures { ReadsCell (λ g. page_group_cell g.0 g.1 g.2 g.3) GroupFits cell.now result }
 {
-    group_on(alloc, 9, cell, scratch)
+    group_on(alloc, Shelf::PageGroups.number(), cell, scratch)
 }

@@ -50,10 +50,10 @@ fn act(alloc: Global, value: &Value<'_>) -> Result<Option<Entry>, Memory>
 }
 
 // The place of a base, or that there is none; `None` where it is neither null nor a place.
-fn place_or_null(value: &Value<'_>, place: usize) -> Option<Option<u32>>
-    ensures { result ≡ option_and_then (or_null place_in) (at place (value_data value.now)) }
+fn place_or_null(value: &Value<'_>, position: usize) -> Option<Option<u32>>
+    ensures { result ≡ option_and_then (or_null place_in) (at position (value_data value.now)) }
 {
-    let found = item(value, place)?;
+    let found = item(value, position)?;
     if is_null(found) {
         Some(None)
     } else {

@@ -14,7 +14,7 @@ use rv_rows::{Call, Lists, Row};
 fn text_fits<const MIN: usize, const MAX: usize>(text: &Bounded<MIN, MAX>)
     ensures { IsText MIN MAX text.now }
 {
-    let _bytes = text.as_str().as_bytes();
+    text.fits();
 }
 
 /// An id is within its bounds, and UTF-8.
@@ -39,7 +39,7 @@ fn words_fit(text: &Text)
 fn number_fits(number: Num)
     ensures { number < 2 ^ 53 }
 {
-    let _number = number.get();
+    number.fits();
 }
 
 fn words_fit_if_there(text: &Option<Text>)

@@ -11,6 +11,9 @@ mod client_reading;
 mod entry_reading;
 mod fault;
 mod fitting;
+mod opening;
+mod page_checking;
+mod page_read;
 mod page_reading;
 mod places;
 mod row_reading;
@@ -31,6 +34,8 @@ pub use fitting::{
     act_fits, client_fits, entry_fits, group_fits, id_fits, look_fits, place_fits, row_fits,
     texts_fit,
 };
+pub use opening::read_page;
+pub use page_read::PageRead;
 pub use page_reading::page_of_cell;
 pub use places::ten_digits;
 pub use row_reading::{page_row_of_cell, row_of_cell};

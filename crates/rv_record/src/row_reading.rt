@@ -11,7 +11,7 @@ use crate::value_reading::place_item;
 use json::{Scratch, Value};
 use rv_base::Memory;
 use rv_json::{item, read_json};
-use rv_keeper::Cell;
+use rv_keeper::{Cell, Shelf};
 use rv_rows::{Row, read_row};
 use std::alloc::Global;
 
@@ -64,6 +64,8 @@ fn row_on(
 
 /// The row whose cell this is, with its version. Any other cell is `BadCell`.
 ///
+/// Nothing in the program calls it, which compares the cells of a store with ones that it writes anew: it is for who reads a store beside it.
+///
 /// `scratch` is room to read in, which is kept from one text to the next.
 pub fn row_of_cell(
     alloc: Global,
@@ -72,7 +74,7 @@ pub fn row_of_cell(
 ) -> Result<(Row, u32), CellFault>
     ensures { ReadsCell (λ r. row_cell r.0 r.1) RowFits cell.now result }
 {
-    row_on(alloc, 2, cell, scratch)
+    row_on(alloc, Shelf::Rows.number(), cell, scratch)
 }
 
 /// The row of a page whose cell this is, with its version. Any other cell is `BadCell`.
@@ -85,5 +87,5 @@ pub fn page_row_of_cell(
 ) -> Result<(Row, u32), CellFault>
     ensures { ReadsCell (λ r. page_row_cell r.0 r.1) RowFits cell.now result }
 {
-    row_on(alloc, 7, cell, scratch)
+    row_on(alloc, Shelf::PageRows.number(), cell, scratch)
 }

@@ -10,7 +10,7 @@ use rv_rows::{Role, num_of_value, role_of_value, text_of_value, text_within};
 use std::alloc::Global;
 
 // The text that the bytes are, where they are UTF-8 and it is within the bounds.
-#[tactic(auto, using(crate::specs::ReadTexts::text_some, crate::specs::ReadTexts::text_none))]
+#[tactic(auto, using(crate::specs::ReadTextLaws::text_some, crate::specs::ReadTextLaws::text_none))]
 pub(crate) fn text_of_bytes<const MIN: usize, const MAX: usize>(
     alloc: Global,
     bytes: &[u8],
@@ -23,32 +23,32 @@ pub(crate) fn text_of_bytes<const MIN: usize, const MAX: usize>(
     }
 }
 
-// The text at a place of an array, from 0, of any length, where it is there.
-pub(crate) fn string_item<'t>(value: &Value<'t>, place: usize) -> Option<&'t str>
-    ensures { option_map (λ s. s.now) result ≡ string_item place (value_data value.now) }
+// The text at a position of an array, from 0, of any length, where it is there.
+pub(crate) fn string_item<'t>(value: &Value<'t>, position: usize) -> Option<&'t str>
+    ensures { option_map (λ s. s.now) result ≡ string_item position (value_data value.now) }
 {
-    text(item(value, place)?)
+    text(item(value, position)?)
 }
 
-// The text at a place of an array, from 0, where it is there and within the bounds.
+// The text at a position of an array, from 0, where it is there and within the bounds.
 pub(crate) fn text_item<const MIN: usize, const MAX: usize>(
     alloc: Global,
     value: &Value<'_>,
-    place: usize,
+    position: usize,
 ) -> Result<Option<Bounded<MIN, MAX>>, Memory>
-    ensures { IfOk result (λ o. o ≡ text_item MIN MAX place (value_data value.now)) }
+    ensures { IfOk result (λ o. o ≡ text_item MIN MAX position (value_data value.now)) }
 {
-    match item(value, place) {
+    match item(value, position) {
         None => Ok(None),
         Some(found) => text_of_value(alloc, found),
     }
 }
 
-// The number at a place of an array, from 0, where it is there and is a `Num`.
-pub(crate) fn num_item(value: &Value<'_>, place: usize) -> Option<Num>
-    ensures { result ≡ num_item place (value_data value.now) }
+// The number at a position of an array, from 0, where it is there and is a `Num`.
+pub(crate) fn num_item(value: &Value<'_>, position: usize) -> Option<Num>
+    ensures { result ≡ num_item position (value_data value.now) }
 {
-    num_of_value(item(value, place)?)
+    num_of_value(item(value, position)?)
 }
 
 // The place or version that a value is, where it is a whole number up to 2^32 - 1.
@@ -59,23 +59,23 @@ pub(crate) fn place_of_value(value: &Value<'_>) -> Option<u32>
     u32::try_from(number).ok()
 }
 
-// The place or version at a place of an array, from 0, where it is there and is one.
-pub(crate) fn place_item(value: &Value<'_>, place: usize) -> Option<u32>
-    ensures { result ≡ place_item place (value_data value.now) }
+// The place or version at a position of an array, from 0, where it is there and is one.
+pub(crate) fn place_item(value: &Value<'_>, position: usize) -> Option<u32>
+    ensures { result ≡ place_item position (value_data value.now) }
 {
-    place_of_value(item(value, place)?)
+    place_of_value(item(value, position)?)
 }
 
-// The flag at a place of an array, from 0, where it is there.
-pub(crate) fn flag_item(value: &Value<'_>, place: usize) -> Option<bool>
-    ensures { result ≡ flag_item place (value_data value.now) }
+// The flag at a position of an array, from 0, where it is there.
+pub(crate) fn flag_item(value: &Value<'_>, position: usize) -> Option<bool>
+    ensures { result ≡ flag_item position (value_data value.now) }
 {
-    flag(item(value, place)?)
+    flag(item(value, position)?)
 }
 
-// The role at a place of an array, from 0, where the text of one is there.
-pub(crate) fn role_item(value: &Value<'_>, place: usize) -> Option<Role>
-    ensures { result ≡ role_item place (value_data value.now) }
+// The role at a position of an array, from 0, where the text of one is there.
+pub(crate) fn role_item(value: &Value<'_>, position: usize) -> Option<Role>
+    ensures { result ≡ role_item position (value_data value.now) }
 {
-    role_of_value(item(value, place)?)
+    role_of_value(item(value, position)?)
 }

@@ -118,11 +118,11 @@ fn pairs_of_values(alloc: Global, values: &[Value<'_>]) -> Result<Option<Vec<(Id
     Ok(Some(clients))
 }
 
-// The items of the array at a place.
-fn array_item<'v, 't>(value: &'v Value<'t>, place: usize) -> Option<&'v [Value<'t>]>
-    ensures { option_map (λ s. items_data s.now) result ≡ option_and_then as_array (at place (value_data value.now)) }
+// The items of the array at a position.
+fn array_item<'v, 't>(value: &'v Value<'t>, position: usize) -> Option<&'v [Value<'t>]>
+    ensures { option_map (λ s. items_data s.now) result ≡ option_and_then as_array (at position (value_data value.now)) }
 {
-    items(item(value, place)?)
+    items(item(value, position)?)
 }
 
 fn rows_of_value(alloc: Global, value: &Value<'_>) -> Result<Option<Vec<(Key, u32)>>, Memory>
@@ -213,6 +213,8 @@ fn view_of_body(
 }
 
 /// The kept view record whose cell this is, at the place of its look, from 1. Any other cell is `BadCell`.
+///
+/// Nothing in the program calls it, which compares the cells of a store with ones that it writes anew: it is for who reads a store beside it.
 ///
 /// `scratch` is room to read in, which is kept from one text to the next.
 pub fn view_of_cell(

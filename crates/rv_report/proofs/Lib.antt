@@ -4,3 +4,4 @@ pub mod LineLaws
 pub mod ShownLaws
 pub mod TallyLaws
 pub mod TenLaws
+pub mod ExportLaws

@@ -11,7 +11,7 @@ use Rattle.std.specs.Option.{option_map, option_map_or, unwrap_or}
 use Rattle.std.specs.Str.{bytes_eq}
 use Rattle.std.proofs.lemmas.Map.Text.{is_eq-slice_cmp}
 use Rattle.rv_base.specs.Sorted.{find_by, put_by}
-use Rattle.rv_base.specs.Positions.{same_from}
+use Rattle.rv_base.specs.PositionLaws.{same_from}
 use Rattle.rv_report.specs.declared.tally.Tally.{Tally}
 use Rattle.rv_report.specs.Tallies.{Tallied, tallied_key, no_entries, tally_in}
 use Rattle.rv_report.specs.Shown.{shown_groups, shown_users}

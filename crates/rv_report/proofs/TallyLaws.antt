@@ -13,14 +13,14 @@ use Rattle.std.proofs.lemmas.List.Sums.{sum_by-cons, count_by-le-length}
 use Rattle.std.proofs.lemmas.Option.{none-some, same_Some, slice_get-get_or, slice_get_within, get_or_from_slice_get}
 use Rattle.std.proofs.lemmas.Slice.Eq.{bytes_eq-Decides}
 use Rattle.rv_base.specs.Sorted.{find_by, put_by, InOrder}
-use Rattle.rv_base.specs.Positions.{Above, equals, below_is, same_from, differs, differs_back, above_chain, not_same, sorted_more, in_order-sorted, map-put, found-sorted}
-use Rattle.rv_base.specs.Arranged.{find-map, sorted-push}
+use Rattle.rv_base.specs.PositionLaws.{Above, equals, below_is, same_from, differs, differs_back, above_chain, not_same, sorted_more, in_order-sorted, map-put, found-sorted}
+use Rattle.rv_base.specs.ArrangedLaws.{find-map, sorted-push}
 use Rattle.rv_rows.specs.declared.call.Call.{Call}
 use Rattle.rv_rows.specs.declared.call.Call.TheVariants.{CreateList, DeleteList, CreateShare, UpdateShare, DeleteShare, CreateTodo, UpdateTodo, DeleteTodo, SetExtent, Void}
 use Rattle.rv_book.specs.declared.entry.Entry.{Entry}
 use Rattle.rv_book.specs.declared.entry.Entry.TheVariants.{Act, Look, Retire}
 use Rattle.rv_book.specs.Book.{Book, book_from, entry_at, opening, size, up_to, with_entry}
-use Rattle.rv_book.specs.BookWords.{count-push, entry_at-index, size-up_to}
+use Rattle.rv_book.specs.BookWordLaws.{count-push, entry_at-index, size-up_to}
 use Rattle.rv_report.specs.declared.tally.Tally.{Tally}
 use Rattle.rv_report.specs.Activity.{group_ids, in_order, named_group, page_groups, entry_user, users_of, is_act_by, is_void_by, is_look_by}
 use Rattle.rv_report.specs.Tallies.{Tallied, tallied_key, no_entries, is_void, with_one, MayRise, tally_in, tallied_with, tally_of, tallies_of}

@@ -3,7 +3,7 @@ use Rattle.std.proofs.Common.{◌≡◌, ◌≢◌, ◌⊎◌, ℕ, ◌+◌, ◌
 use Rattle.std.specs.Prelude.{Result, Ok, Err, IfSome}
 use Rattle.rv_book.specs.declared.entry.Entry.{Entry}
 use Rattle.rv_book.specs.Book.{Book, size, since, with_entry, Extends}
-use Rattle.rv_book.specs.BookWords.{since-all, since-with_entry, size-with_entries, size-with_entry}
+use Rattle.rv_book.specs.BookWordLaws.{since-all, since-with_entry, size-with_entries, size-with_entry}
 use Rattle.rv_turns.specs.Asks.{Ask, IsClosing}
 use Rattle.rv_turns.specs.Outcomes.{trouble_of}
 use Rattle.rv_turns.specs.declared.outcome.Outcome.{Outcome}
@@ -13,16 +13,18 @@ use Rattle.rv_turns.specs.declared.refusal.Trouble.{Trouble}
 use Rattle.rv_turns.specs.declared.refusal.Trouble.TheVariants.{Keeper, Changed}
 use Rattle.rv_wire.specs.Answers.{pull_json}
 use Rattle.rv_history.specs.Marks.{IsMark}
-use Rattle.rv_history.specs.TurnLaws.{Adds, step_adds}
-use Rattle.rv_history.specs.Reading.{turn_entries}
+use Rattle.rv_history.specs.TurnLaws.{step_adds}
+use Rattle.rv_history.specs.Machine.{Adds}
+use Rattle.rv_history.specs.Reading.{turn_steps}
 use Rattle.rv_history.specs.Served.{Doubt, IsNoClosing, Next, Served, Settles, TurnOf, TakesTurn}
 use Rattle.rv_keeper.specs.declared.keeper.Keeper.{Ghosts}
 use Rattle.rv_doubt.specs.Kept.{Assures, KeepsBook}
-use Rattle.rv_desk.specs.Seated.{DeskTakes, Seated, served}
+use Rattle.rv_desk.specs.DeskStates.{DeskTakes, DeskState, served}
 use Rattle.rv_doubt.specs.Settling.{HasSettled, settle_trouble}
 use Rattle.rv_desk.specs.TurnLaws.{assures_on, no_doubt, none_settles, turn_after, turn_unsettled}
 use Rattle.rv_room.specs.declared.view.SeatView.{SeatView}
-use Rattle.rv_room.specs.Following.{KeeperFollows, FollowsAll, follows_on}
+use Rattle.rv_room.specs.Following.{KeeperFollows, FollowsAll}
+use Rattle.rv_room.specs.FollowingLaws.{follows_on}
 use Rattle.rv_room.specs.Lists.{numbered}
 use Rattle.rv_room.specs.Views.{waiting, on_turn, grown, entered, option_items}
 use Rattle.rv_room.specs.Rule.{IsOf}
@@ -85,10 +87,10 @@ module _ {K : Type 0} where
       else_is refl ∙ (λ i. ((is_v ∙ (sym (entered_none v) ∙ ap (entered v) (sym whole))) i, m.1))
 
   -- what the seat knows once the desk has stepped
-  pub after_making : (v : SeatView K) (d : Seated K) (settled now : ℕ) (made : Bool) (m m' : Knows K) → settled ≡ size v.book → now ≡ size d.book → Adds v.book d.book
+  pub after_making : (v : SeatView K) (d : DeskState K) (settled now : ℕ) (made : Bool) (m m' : Knows K) → settled ≡ size v.book → now ≡ size d.book → Adds v.book d.book
       → (made ≡ true → now ≢ settled) → (made ≡ false → now ≡ settled)
       → m ≡ (v, (0, Some d) ∷ [])
-      → (made ≡ true → (d : Seated K) → m.1 ≡ (0, Some d) ∷ [] → m' ≡ (grown m.0 d.book, m.1)) → (made ≡ false → m' ≡ m)
+      → (made ≡ true → (d : DeskState K) → m.1 ≡ (0, Some d) ∷ [] → m' ≡ (grown m.0 d.book, m.1)) → (made ≡ false → m' ≡ m)
       → m' ≡ (grown v d.book, (0, Some d) ∷ [])
   after_making v d settled now true m m' s0 n0 adds apart same is then_is else_is =
       then_is refl d (ap (λ (m : Knows K). m.1) is) ∙ (λ i. (grown (is i).0 d.book, (is i).1))
@@ -103,7 +105,7 @@ module _ {K : Type 0} (G : Ghosts K) where
   pub goes_with : (old new : K) (tr : Option Trouble) → Assures G.tells G.fails_no_more old tr new → G.faults old ≤ G.faults new → KeeperFollows G old new
   goes_with old new tr assured later = record { told = assured.told; goes_on = assured.goes_on; later = later }
 
-  pub of_after : (v : SeatView K) (d d' : Seated K) → IsOf G v d → d'.limit ≡ d.limit → IsNoClosing d'.doubt → KeeperFollows G d.keeper d'.keeper → IsOf G v d'
+  pub of_after : (v : SeatView K) (d d' : DeskState K) → IsOf G v d → d'.limit ≡ d.limit → IsNoClosing d'.doubt → KeeperFollows G d.keeper d'.keeper → IsOf G v d'
   of_after v d d' of limit entry goes = (of.0, of.1, record { limit = limit ∙ of.2.limit; doubt = entry; keeper = follows_on G of.0.keeper d.keeper d'.keeper of.2.keeper goes })
 
 -- where nothing was in doubt, a turn that asks for no closing adds at most one entry
@@ -131,7 +133,7 @@ module _ (old : Served) (ask : Ask) (outcome : Outcome) (new : Served) (sure : o
   turn_left taken = left_by taken.settled taken.left (trouble_of outcome) taken.turn
 
 module _ {K : Type 0} (G : Ghosts K) where
-  pub seat_turn : (v : SeatView K) (t : ℕ) (d mid d' : Seated K) (ask : Ask) (outcome : Outcome) → ¬ IsClosing ask → IsOf G v d → Extends d.book v.seen → FollowsAll G v.after d.keeper
+  pub seat_turn : (v : SeatView K) (t : ℕ) (d mid d' : DeskState K) (ask : Ask) (outcome : Outcome) → ¬ IsClosing ask → IsOf G v d → Extends d.book v.seen → FollowsAll G v.after d.keeper
       → HasSettled (served G.faults d) (Ok tt) (served G.faults mid) → Assures G.tells G.fails_no_more d.keeper None mid.keeper → DeskTakes G mid ask outcome d'
       → IsSeatTurn G v ask outcome (end_view (on_turn G.faults (waiting v t) d) mid.book d'.book d'.doubt d'.keeper)
   seat_turn v t d mid d' ask outcome asks of begins later settled assured takes = record {
@@ -154,7 +156,7 @@ module _ {K : Type 0} (G : Ghosts K) where
     after = refl;
   }
 
-  pub seat_held : (v : SeatView K) (t : ℕ) (d d' : Seated K) (trouble : Trouble) (ask : Ask) → ¬ IsClosing ask → IsOf G v d → Extends d.book v.seen → FollowsAll G v.after d.keeper
+  pub seat_held : (v : SeatView K) (t : ℕ) (d d' : DeskState K) (trouble : Trouble) (ask : Ask) → ¬ IsClosing ask → IsOf G v d → Extends d.book v.seen → FollowsAll G v.after d.keeper
       → HasSettled (served G.faults d) (Err trouble) (served G.faults d') → Assures G.tells G.fails_no_more d.keeper (Some trouble) d'.keeper → KeepsBook G d'.keeper d'.book d'.doubt
       → IsSeatTurn G v ask (Refused (refusals.Trouble trouble)) (held_view (on_turn G.faults (waiting v t) d) d'.keeper)
   seat_held v t d d' trouble ask asks of begins later settled assured kept =
@@ -183,26 +185,26 @@ module _ {K : Type 0} (G : Ghosts K) where
 
 module _ {K : Type 0} (G : Ghosts K) where
   -- what a seat knows and holds once it has taken the desk out of its slot
-  abbrev pub HasTaken : SeatView K → Seated K → Knows K → Type 0
+  abbrev pub HasTaken : SeatView K → DeskState K → Knows K → Type 0
   HasTaken v d m = (t : ℕ) × (m ≡ (on_turn G.faults (waiting v t) d, (0, None) ∷ []))
 
-  pub taken_of : (v : SeatView K) (d d' : Seated K) (m : Knows K) → HasTaken v d m → IsOf G v d → d'.limit ≡ d.limit → IsNoClosing d'.doubt → KeeperFollows G d.keeper d'.keeper → IsOf G m.0 d'
+  pub taken_of : (v : SeatView K) (d d' : DeskState K) (m : Knows K) → HasTaken v d m → IsOf G v d → d'.limit ≡ d.limit → IsNoClosing d'.doubt → KeeperFollows G d.keeper d'.keeper → IsOf G m.0 d'
   taken_of v d d' m taken of limit entry goes = subst (λ (m : Knows K). IsOf G m.0 d') (sym taken.1) (of_after G v d d' of limit entry goes)
 
-  pub taken_entry : (v : SeatView K) (d : Seated K) (m : Knows K) → HasTaken v d m → IsOf G v d → IsNoClosing m.0.doubt
+  pub taken_entry : (v : SeatView K) (d : DeskState K) (m : Knows K) → HasTaken v d m → IsOf G v d → IsNoClosing m.0.doubt
   taken_entry v d m taken of = subst (λ (m : Knows K). IsNoClosing m.0.doubt) (sym taken.1) of.2.doubt
 
-  pub taken_follows : (v : SeatView K) (d : Seated K) (m : Knows K) (now : K) → HasTaken v d m → KeeperFollows G d.keeper now → IfSome m.0.keeper (λ keeper. KeeperFollows G keeper now)
+  pub taken_follows : (v : SeatView K) (d : DeskState K) (m : Knows K) (now : K) → HasTaken v d m → KeeperFollows G d.keeper now → IfSome m.0.keeper (λ keeper. KeeperFollows G keeper now)
   taken_follows v d m now taken goes = subst (λ (m : Knows K). IfSome m.0.keeper (λ keeper. KeeperFollows G keeper now)) (sym taken.1) goes
 
-  pub taken_settles : (v : SeatView K) (d : Seated K) (m : Knows K) (s : Book) → HasTaken v d m → Settles d.book d.doubt s → Settles m.0.book m.0.doubt s
+  pub taken_settles : (v : SeatView K) (d : DeskState K) (m : Knows K) (s : Book) → HasTaken v d m → Settles d.book d.doubt s → Settles m.0.book m.0.doubt s
   taken_settles v d m s taken is = subst (λ (m : Knows K). Settles m.0.book m.0.doubt s) (sym taken.1) is
 
 module _ {K : Type 0} (G : Ghosts K) where
-  pub ended_within : (v : SeatView K) (d mid d' : Seated K) (m : Knows K) (ask : Ask) (outcome : Outcome) (w : SeatView K) → ¬ IsClosing ask → HasTaken G v d m → IsOf G v d → Extends d.book v.seen → FollowsAll G v.after d.keeper
+  pub ended_within : (v : SeatView K) (d mid d' : DeskState K) (m : Knows K) (ask : Ask) (outcome : Outcome) (w : SeatView K) → ¬ IsClosing ask → HasTaken G v d m → IsOf G v d → Extends d.book v.seen → FollowsAll G v.after d.keeper
       → (settled : Result (Unit {0}) Trouble) → settled ≡ Ok tt → HasSettled (served G.faults d) settled (served G.faults mid) → Assures G.tells G.fails_no_more d.keeper (settle_trouble settled) mid.keeper → DeskTakes G mid ask outcome d'
       → w ≡ end_view m.0 mid.book d'.book d'.doubt d'.keeper
-      → (before after : ℕ) → after ≤ before + turn_entries ask mid.book
+      → (before after : ℕ) → after ≤ before + turn_steps ask mid.book
       → IsSeatTurnWithin G v ask outcome w before after
   unfolding seat_turn
   ended_within v d mid d' m ask outcome w asks taken of begins later settled ok is assured takes view before after within =
@@ -212,7 +214,7 @@ module _ {K : Type 0} (G : Ghosts K) where
         within,
       )
 
-  pub held_within : (v : SeatView K) (d d' : Seated K) (m : Knows K) (ask : Ask) (w : SeatView K) (why : Trouble) → ¬ IsClosing ask → HasTaken G v d m → IsOf G v d → Extends d.book v.seen → FollowsAll G v.after d.keeper
+  pub held_within : (v : SeatView K) (d d' : DeskState K) (m : Knows K) (ask : Ask) (w : SeatView K) (why : Trouble) → ¬ IsClosing ask → HasTaken G v d m → IsOf G v d → Extends d.book v.seen → FollowsAll G v.after d.keeper
       → (settled : Result (Unit {0}) Trouble) → settled ≡ Err why → HasSettled (served G.faults d) settled (served G.faults d') → Assures G.tells G.fails_no_more d.keeper (settle_trouble settled) d'.keeper → KeepsBook G d'.keeper d'.book d'.doubt
       → w ≡ held_view m.0 d'.keeper
       → (before : ℕ) → IsSeatTurnWithin G v ask (Refused (refusals.Trouble why)) w before before
@@ -244,7 +246,7 @@ adds_size old new (inr (e, is)) = omega (arith, longer_by_one old e new is)
 
 module _ {K : Type 0} (G : Ghosts K) where
   -- the desk settled and stepped
-  pub ended_settles : (v : SeatView K) (d mid d' : Seated K) (m : Knows K) (w : SeatView K) → HasTaken G v d m → IsOf G v d → Extends d.book v.seen → Settles d.book d.doubt mid.book → Adds mid.book d'.book
+  pub ended_settles : (v : SeatView K) (d mid d' : DeskState K) (m : Knows K) (w : SeatView K) → HasTaken G v d m → IsOf G v d → Extends d.book v.seen → Settles d.book d.doubt mid.book → Adds mid.book d'.book
       → w ≡ end_view m.0 mid.book d'.book d'.doubt d'.keeper
       → (began settled now : ℕ) → began ≡ size d.book → settled ≡ size mid.book → now ≡ size d'.book → now < 2 ^ 32 → SettlesSo v (settled - began) w
   ended_settles v d mid d' m w taken of begins settles adds view began settled now b0 s0 n0 few =
@@ -258,7 +260,7 @@ module _ {K : Type 0} (G : Ghosts K) where
       }
 
   -- the desk could not settle
-  pub held_settles : (v : SeatView K) (d d' : Seated K) (m : Knows K) (w : SeatView K) → HasTaken G v d m → Extends d.book v.seen → w ≡ held_view m.0 d'.keeper → (began : ℕ) → began ≡ size d.book → began < 2 ^ 32 → SettlesSo v 0 w
+  pub held_settles : (v : SeatView K) (d d' : DeskState K) (m : Knows K) (w : SeatView K) → HasTaken G v d m → Extends d.book v.seen → w ≡ held_view m.0 d'.keeper → (began : ℕ) → began ≡ size d.book → began < 2 ^ 32 → SettlesSo v 0 w
   held_settles v d d' m w taken begins view began b0 few =
       let is : w ≡ held_view (on_turn G.faults (waiting v taken.0) d) d'.keeper = view ∙ ap (λ (m : Knows K). held_view m.0 d'.keeper) taken.1 in
       let count = ap (λ (s : SeatView K). length s.settled) is in
@@ -271,7 +273,7 @@ module _ {K : Type 0} (G : Ghosts K) where
 -- ---- All of a turn that leaves the desk as it is.
 
 module _ {K : Type 0} (G : Ghosts K) where
-  seat_mark : (v : SeatView K) (t : ℕ) (d : Seated K) (user : List ℕ) (mark : ℕ) → IsOf G v d → Extends d.book v.seen → FollowsAll G v.after d.keeper → IsMark user d.book mark → KeepsBook G d.keeper d.book d.doubt
+  seat_mark : (v : SeatView K) (t : ℕ) (d : DeskState K) (user : List ℕ) (mark : ℕ) → IsOf G v d → Extends d.book v.seen → FollowsAll G v.after d.keeper → IsMark user d.book mark → KeepsBook G d.keeper d.book d.doubt
       → IsSeatMark G v user mark (held_view (on_turn G.faults (waiting v t) d) d.keeper)
   seat_mark v t d user mark of begins later is kept = record {
     opened = of.0;
@@ -292,7 +294,7 @@ module _ {K : Type 0} (G : Ghosts K) where
     after = refl;
   }
 
-  pub marked_turn : (v : SeatView K) (d : Seated K) (m : Knows K) (user : List ℕ) (mark : ℕ) (w : SeatView K) → HasTaken G v d m → IsOf G v d → Extends d.book v.seen → FollowsAll G v.after d.keeper → IsMark user d.book mark → KeepsBook G d.keeper d.book d.doubt
+  pub marked_turn : (v : SeatView K) (d : DeskState K) (m : Knows K) (user : List ℕ) (mark : ℕ) (w : SeatView K) → HasTaken G v d m → IsOf G v d → Extends d.book v.seen → FollowsAll G v.after d.keeper → IsMark user d.book mark → KeepsBook G d.keeper d.book d.doubt
       → w ≡ held_view m.0 d.keeper
       → IsSeatMark G v user mark w
   marked_turn v d m user mark w taken of begins later is kept view =

@@ -13,12 +13,13 @@ use Rattle.atomic_table.specs.Table.{State, Me, Act, keeps, takes, gives, steppe
 use Rattle.atomic_table.proofs.Lists.{at_set, set_again, set_else, one_turn, exchanged}
 use Rattle.rv_book.specs.declared.entry.Entry.{Entry}
 use Rattle.rv_book.specs.Book.{Book, entry_at, size, since, with_entry, Extends}
-use Rattle.rv_book.specs.BookWords.{entry_at-end, entry_at-with_entry, entry_at-within, extends_on, extends_same, since-all, since-with_entry, size-with_entry}
+use Rattle.rv_book.specs.BookWordLaws.{entry_at-end, entry_at-with_entry, entry_at-within, extends_on, extends_same, since-all, since-with_entry, size-with_entry}
 use Rattle.rv_history.specs.Served.{Doubt, Next, with_doubt}
 use Rattle.rv_keeper.specs.declared.keeper.Keeper.{Ghosts}
-use Rattle.rv_desk.specs.Seated.{Seated}
+use Rattle.rv_desk.specs.DeskStates.{DeskState}
 use Rattle.rv_room.specs.declared.view.SeatView.{SeatView}
-use Rattle.rv_room.specs.Following.{KeeperFollows, FollowsAll, follows_same, follows_on}
+use Rattle.rv_room.specs.Following.{KeeperFollows, FollowsAll}
+use Rattle.rv_room.specs.FollowingLaws.{follows_same, follows_on}
 use Rattle.rv_room.specs.Lists.{hit, total, once_below, count_at, numbered}
 use Rattle.rv_room.specs.Views.{IsIdle, waiting, on_turn, grown, entered, option_items, noted, with_keeper, ended}
 use Rattle.rv_room.specs.Rule.{seat_parts, waits_of, own_at, IsLeftBySeat, DoubtIsLeft, SeatFits, IsOut, Keeps, IsOf, AtHome, Kept, KeptIn, StandsAfter}
@@ -83,10 +84,10 @@ module _ {K : Type 0} where
   doubt_set views id v w at more grows d l e is = left_set views id v w at more grows e (l e is)
 
 module _ {K : Type 0} (G : Ghosts K) where
-  abbrev pub AllFit : Seated K → Book → ℕ → ℕ → K → List (SeatView K) → Type 0
+  abbrev pub AllFit : DeskState K → Book → ℕ → ℕ → K → List (SeatView K) → Type 0
   AllFit opened log front n keeper views = (j : ℕ) (v : SeatView K) → At views j v → SeatFits G opened log front n keeper v
 
-  pub all_set : (opened : Seated K) (log : Book) (front n : ℕ) (keeper : K) (views : List (SeatView K)) (j : ℕ) (w : SeatView K) → ((i : ℕ) (u : SeatView K) → i ≢ j → At views i u → SeatFits G opened log front n keeper u) → SeatFits G opened log front n keeper w
+  pub all_set : (opened : DeskState K) (log : Book) (front n : ℕ) (keeper : K) (views : List (SeatView K)) (j : ℕ) (w : SeatView K) → ((i : ℕ) (u : SeatView K) → i ≢ j → At views i u → SeatFits G opened log front n keeper u) → SeatFits G opened log front n keeper w
       → AllFit opened log front n keeper (set views j w)
   all_set opened log front n keeper = each_set (λ _. SeatFits G opened log front n keeper)
 
@@ -94,15 +95,15 @@ module _ {K : Type 0} (G : Ghosts K) where
   follows_later : (old new : K) → KeeperFollows G old new → (keepers : List K) → FollowsAll G keepers old → FollowsAll G keepers new
   follows_later old new goes keepers all = all_map _ _ keepers (λ k follows. follows_on G k old new follows goes) all
 
-module _ {K : Type 0} (G : Ghosts K) (opened : Seated K) (seats : ℕ) where
+module _ {K : Type 0} (G : Ghosts K) (opened : DeskState K) (seats : ℕ) where
   abbrev Homes : Type 0
-  Homes = List (maybe.Option (Option (Seated K)))
+  Homes = List (maybe.Option (Option (DeskState K)))
 
   abbrev Rule : List ℕ → Homes → List (SeatView K) → Type 0
   Rule = Kept G opened seats
 
   abbrev S : Type 0
-  S = State (Option (Seated K)) (SeatView K)
+  S = State (Option (DeskState K)) (SeatView K)
 
   abbrev Home : Book → K → Homes → List (SeatView K) → Type 0
   Home = AtHome G opened
@@ -176,7 +177,7 @@ module _ {K : Type 0} (G : Ghosts K) (opened : Seated K) (seats : ℕ) where
   settled_still : (words : List ℕ) (homes : Homes) (views : List (SeatView K)) (k : Rule words homes views) (id : ℕ) (v w : SeatView K) → At views id v → (more : List Next) → w.left ≡ v.left ++ more → AllByRecursion (IsLeftBySeat (set views id w)) v.settled
   settled_still words homes views k id v w at more grows = all_map _ _ v.settled (left_set views id v w at more grows) (k.left id v at)
 
-  pub takes_ticket : (slots id : ℕ) (v : SeatView K) (c : List (ℕ × Option (Seated K))) → IsIdle v → 0 < v.parts → Allows (KeptIn G opened seats) slots id (v, c) 0 (λ n. (n + 1) % 2 ^ 64) (TakesTicket (v, c))
+  pub takes_ticket : (slots id : ℕ) (v : SeatView K) (c : List (ℕ × Option (DeskState K))) → IsIdle v → 0 < v.parts → Allows (KeptIn G opened seats) slots id (v, c) 0 (λ n. (n + 1) % 2 ^ 64) (TakesTicket (v, c))
   takes_ticket slots id v c idle some_part s k len at bound =
       let n : ℕ = total waits_of s.views in
       let t : ℕ = k.front + n in
@@ -208,11 +209,11 @@ module _ {K : Type 0} (G : Ghosts K) (opened : Seated K) (seats : ℕ) where
   same_rule words homes views id v k at = subst (λ (vs : List (SeatView K)). Rule words homes vs) (sym (set_again views id v at)) k
 
   -- the ticket is taken if it still is the next one
-  pub takes_if_next : (slots id : ℕ) (v : SeatView K) (c : List (ℕ × Option (Seated K))) → IsIdle v → 0 < v.parts → (ticket next : ℕ) → next ≡ (ticket + 1) % 2 ^ 64 → Allows (KeptIn G opened seats) slots id (v, c) 0 (λ n. either (n == ticket) next n) (TakesIfNext ticket (v, c))
+  pub takes_if_next : (slots id : ℕ) (v : SeatView K) (c : List (ℕ × Option (DeskState K))) → IsIdle v → 0 < v.parts → (ticket next : ℕ) → next ≡ (ticket + 1) % 2 ^ 64 → Allows (KeptIn G opened seats) slots id (v, c) 0 (λ n. either (n == ticket) next n) (TakesIfNext ticket (v, c))
   takes_if_next slots id v c idle some_part ticket next is s k len at bound = exchanged (slice_index s.words 0) ticket next Goes hit miss
     where
       Goes : ℕ → Type 0
-      Goes n = (w : SeatView K) × (a : Act (Option (Seated K))) × Valid s.homes c a × KeptIn G opened seats (stepped s 0 n id c w a) × TakesIfNext ticket (v, c) (slice_index s.words 0) (w, carried_after c a)
+      Goes n = (w : SeatView K) × (a : Act (Option (DeskState K))) × Valid s.homes c a × KeptIn G opened seats (stepped s 0 n id c w a) × TakesIfNext ticket (v, c) (slice_index s.words 0) (w, carried_after c a)
 
       hit : slice_index s.words 0 ≡ ticket → Goes next
       hit e =
@@ -235,14 +236,14 @@ module _ {K : Type 0} (G : Ghosts K) (opened : Seated K) (seats : ℕ) where
       )
 
   -- the number of turns that have ended is read
-  pub checks_turn : (slots id : ℕ) (v : SeatView K) (c : List (ℕ × Option (Seated K))) → v.waits ≡ 1 → v.turns ≡ 0 → Allows (KeptIn G opened seats) slots id (v, c) 1 (λ n. n) (ChecksTurn G (v, c))
+  pub checks_turn : (slots id : ℕ) (v : SeatView K) (c : List (ℕ × Option (DeskState K))) → v.waits ≡ 1 → v.turns ≡ 0 → Allows (KeptIn G opened seats) slots id (v, c) 1 (λ n. n) (ChecksTurn G (v, c))
   checks_turn slots id v c wait off s k len at bound = dite (ℕ_discrete (slice_index s.words 1) (v.ticket % 2 ^ 64)) mine other
     where
       same_words : slice_set s.words 1 (slice_index s.words 1) ≡ s.words
       same_words = ap (λ ws. slice_set ws 1 (slice_index ws 1)) k.words_are ∙ sym k.words_are
 
       Goes : Type 0
-      Goes = (w : SeatView K) × (a : Act (Option (Seated K))) × Valid s.homes c a × KeptIn G opened seats (stepped s 1 (slice_index s.words 1) id c w a) × ChecksTurn G (v, c) (slice_index s.words 1) (w, carried_after c a)
+      Goes = (w : SeatView K) × (a : Act (Option (DeskState K))) × Valid s.homes c a × KeptIn G opened seats (stepped s 1 (slice_index s.words 1) id c w a) × ChecksTurn G (v, c) (slice_index s.words 1) (w, carried_after c a)
 
       other : slice_index s.words 1 ≢ v.ticket % 2 ^ 64 → Goes
       other ne = (v, keeps, tt, subst (λ (ws : List ℕ). Rule ws s.homes (set s.views id v)) (sym same_words) (same_rule s.words s.homes s.views id v k at), ((λ _. refl), (λ e. absurd (ne e))))
@@ -415,7 +416,7 @@ module _ {K : Type 0} (G : Ghosts K) (opened : Seated K) (seats : ℕ) where
           }
 
   -- the entry that was in doubt has entered the book
-  pub counts_settled : (slots id : ℕ) (v : SeatView K) (c : List (ℕ × Option (Seated K))) (e : Entry) → v.turns ≡ 1 → v.doubt ≡ Some (Next.entry e) → size (with_entry v.book e) < 2 ^ 63 → Allows (KeptIn G opened seats) slots id (v, c) 2 (λ n. (n + 1) % 2 ^ 64) (CountsSettled (v, c))
+  pub counts_settled : (slots id : ℕ) (v : SeatView K) (c : List (ℕ × Option (DeskState K))) (e : Entry) → v.turns ≡ 1 → v.doubt ≡ Some (Next.entry e) → size (with_entry v.book e) < 2 ^ 63 → Allows (KeptIn G opened seats) slots id (v, c) 2 (λ n. (n + 1) % 2 ^ 64) (CountsSettled (v, c))
   counts_settled slots id v c e on is short s k len at bound =
       let o = on_turn_now s id v k at on in
       let now : Book = with_doubt v.book v.doubt in
@@ -435,7 +436,7 @@ module _ {K : Type 0} (G : Ghosts K) (opened : Seated K) (seats : ℕ) where
       )
 
   -- one entry that the step made is counted
-  pub counts_made : (slots id : ℕ) (v : SeatView K) (d : Seated K) (e : Entry) → v.turns ≡ 1 → d.book ≡ with_entry v.book e → size d.book < 2 ^ 63
+  pub counts_made : (slots id : ℕ) (v : SeatView K) (d : DeskState K) (e : Entry) → v.turns ≡ 1 → d.book ≡ with_entry v.book e → size d.book < 2 ^ 63
       → Allows (KeptIn G opened seats) slots id (v, (0, Some d) ∷ []) 2 (λ n. (n + 1) % 2 ^ 64) (CountsMade (v, (0, Some d) ∷ []))
   counts_made slots id v d e on longer short s k len at bound =
       let o = on_turn_now s id v k at on in
@@ -452,7 +453,7 @@ module _ {K : Type 0} (G : Ghosts K) (opened : Seated K) (seats : ℕ) where
       )
 
   -- the desk is looked at again: what a view with the turn becomes, of which the doubt was left
-  seen_again : (slots id : ℕ) (v w : SeatView K) (c : List (ℕ × Option (Seated K))) (Told : ℕ → Me (Option (Seated K)) (SeatView K) → Type 0) → v.turns ≡ 1 → (now : K) → w.keeper ≡ Some now → IfSome v.keeper (λ keeper. KeeperFollows G keeper now)
+  seen_again : (slots id : ℕ) (v w : SeatView K) (c : List (ℕ × Option (DeskState K))) (Told : ℕ → Me (Option (DeskState K)) (SeatView K) → Type 0) → v.turns ≡ 1 → (now : K) → w.keeper ≡ Some now → IfSome v.keeper (λ keeper. KeeperFollows G keeper now)
       → (w.parts ≡ v.parts) × (w.waits ≡ v.waits) × (w.turns ≡ v.turns) × (w.ticket ≡ v.ticket) × (w.opened ≡ v.opened) × (w.book ≡ v.book) × (w.seen ≡ v.seen) × (w.joined ≡ v.joined) × (w.own ≡ v.own) × (w.after ≡ v.after) × (w.settled ≡ v.settled)
       → (more : List Next) → w.left ≡ v.left ++ more
       → ((views : List (SeatView K)) → At views id v → DoubtIsLeft views v.doubt → DoubtIsLeft (set views id w) w.doubt)
@@ -506,7 +507,7 @@ module _ {K : Type 0} (G : Ghosts K) (opened : Seated K) (seats : ℕ) where
       (id, w, here views id v w at, (length v.left, ap (λ l. slice_get l (length v.left)) (more ∙ ap (λ (x : Doubt). v.left ++ option_items x) is) ∙ get_last v.left (Next.entry e)))
 
   -- the desk has settled and stepped
-  pub notes_settled : (slots id : ℕ) (v : SeatView K) (d : Seated K) → v.turns ≡ 1 → IfSome v.keeper (λ keeper. KeeperFollows G keeper d.keeper) → Allows (KeptIn G opened seats) slots id (v, (0, Some d) ∷ []) 1 (λ n. n) (NotesSettled (v, (0, Some d) ∷ []))
+  pub notes_settled : (slots id : ℕ) (v : SeatView K) (d : DeskState K) → v.turns ≡ 1 → IfSome v.keeper (λ keeper. KeeperFollows G keeper d.keeper) → Allows (KeptIn G opened seats) slots id (v, (0, Some d) ∷ []) 1 (λ n. n) (NotesSettled (v, (0, Some d) ∷ []))
   notes_settled slots id v d on goes =
       let w = noted v d.doubt (Some d.keeper) in
       seen_again slots id v w ((0, Some d) ∷ []) (NotesSettled (v, (0, Some d) ∷ [])) on d.keeper refl goes
@@ -517,7 +518,7 @@ module _ {K : Type 0} (G : Ghosts K) (opened : Seated K) (seats : ℕ) where
       (λ n. refl)
 
   -- the desk could not settle
-  pub notes_keeper : (slots id : ℕ) (v : SeatView K) (d : Seated K) → v.turns ≡ 1 → IfSome v.keeper (λ keeper. KeeperFollows G keeper d.keeper) → Allows (KeptIn G opened seats) slots id (v, (0, Some d) ∷ []) 1 (λ n. n) (NotesKeeper (v, (0, Some d) ∷ []))
+  pub notes_keeper : (slots id : ℕ) (v : SeatView K) (d : DeskState K) → v.turns ≡ 1 → IfSome v.keeper (λ keeper. KeeperFollows G keeper d.keeper) → Allows (KeptIn G opened seats) slots id (v, (0, Some d) ∷ []) 1 (λ n. n) (NotesKeeper (v, (0, Some d) ∷ []))
   notes_keeper slots id v d on goes =
       let w = with_keeper v (Some d.keeper) in
       seen_again slots id v w ((0, Some d) ∷ []) (NotesKeeper (v, (0, Some d) ∷ [])) on d.keeper refl goes
@@ -528,7 +529,7 @@ module _ {K : Type 0} (G : Ghosts K) (opened : Seated K) (seats : ℕ) where
       (λ n. refl)
 
   -- the turn is passed, and the desk is at home
-  pub passes : (slots id : ℕ) (v : SeatView K) (d : Seated K) → v.turns ≡ 1 → IsOf G v d → d.book ≡ v.book → d.doubt ≡ v.doubt → v.keeper ≡ Some d.keeper
+  pub passes : (slots id : ℕ) (v : SeatView K) (d : DeskState K) → v.turns ≡ 1 → IsOf G v d → d.book ≡ v.book → d.doubt ≡ v.doubt → v.keeper ≡ Some d.keeper
       → Allows (KeptIn G opened seats) slots id (v, (0, Some d) ∷ []) 1 (λ n. (n + 1) % 2 ^ 64) (Passes (v, (0, Some d) ∷ []))
   passes slots id v d on of is doubt keeper s k len at bound =
       let o = on_turn_now s id v k at on in
@@ -554,7 +555,7 @@ module _ {K : Type 0} (G : Ghosts K) (opened : Seated K) (seats : ℕ) where
               home = home;
               book = is ∙ o.named;
               keeper_is = some_same _ _ (sym keeper ∙ o.keeper);
-              keeps = subst (λ (x : Seated K). Keeps G x d) same_room of.2;
+              keeps = subst (λ (x : DeskState K). Keeps G x d) same_room of.2;
               doubt = subst (DoubtIsLeft (set s.views id w)) (sym doubt) (doubt_set s.views id v w at [] none_more v.doubt o.doubt);
               nobody = each_set (λ _ u. u.turns ≡ 0) s.views id w o.others refl;
             }))
@@ -576,7 +577,7 @@ module _ {K : Type 0} (G : Ghosts K) (opened : Seated K) (seats : ℕ) where
           record { once = f.once; part = f.part; waits = f.waits; line = (λ w. let l0 = (f.line w).0 in let l1 = (f.line w).1 in let not_mine : u.ticket ≡ k.front → ⊥ = λ same. ne w (same ∙ sym ticket) in (omega arith, omega arith)); turn = (λ o. absurd (omega arith)); knows = f.knows; seen = f.seen; joined = f.joined; own = f.own; after = f.after; spent = f.spent }
 
   -- a word changes that only wakes seats
-  pub signals_word : (slots id place : ℕ) (v : SeatView K) (c : List (ℕ × Option (Seated K))) (f : ℕ → ℕ) → Allows (KeptIn G opened seats) slots id (v, c) (suc (suc (suc place))) f (Signals (v, c))
+  pub signals_word : (slots id place : ℕ) (v : SeatView K) (c : List (ℕ × Option (DeskState K))) (f : ℕ → ℕ) → Allows (KeptIn G opened seats) slots id (v, c) (suc (suc (suc place))) f (Signals (v, c))
   signals_word slots id place v c f s k len at bound =
       let now : ℕ = f (slice_index s.words (suc (suc (suc place)))) in (
         v,
@@ -600,28 +601,28 @@ module _ {K : Type 0} (G : Ghosts K) (opened : Seated K) (seats : ℕ) where
         refl,
       )
 
-  pub signals_at : (slots id word place : ℕ) (v : SeatView K) (c : List (ℕ × Option (Seated K))) (f : ℕ → ℕ) → word ≡ 3 + place → Allows (KeptIn G opened seats) slots id (v, c) word f (Signals (v, c))
+  pub signals_at : (slots id word place : ℕ) (v : SeatView K) (c : List (ℕ × Option (DeskState K))) (f : ℕ → ℕ) → word ≡ 3 + place → Allows (KeptIn G opened seats) slots id (v, c) word f (Signals (v, c))
   signals_at slots id word place v c f is =
       let e : suc (suc (suc place)) ≡ word = omega (arith, is) in
       subst (λ (w : ℕ). Allows (KeptIn G opened seats) slots id (v, c) w f (Signals (v, c))) e (signals_word slots id place v c f)
 
   -- the same for a seat that is known by an equation
   abbrev Slots : Type 0
-  Slots = List (ℕ × Option (Seated K))
+  Slots = List (ℕ × Option (DeskState K))
 
-  pub counts_made_as : (slots id : ℕ) (v : SeatView K) (c : Slots) (d : Seated K) (e : Entry) → c ≡ (0, Some d) ∷ [] → v.turns ≡ 1 → d.book ≡ with_entry v.book e → size d.book < 2 ^ 63
+  pub counts_made_as : (slots id : ℕ) (v : SeatView K) (c : Slots) (d : DeskState K) (e : Entry) → c ≡ (0, Some d) ∷ [] → v.turns ≡ 1 → d.book ≡ with_entry v.book e → size d.book < 2 ^ 63
       → Allows (KeptIn G opened seats) slots id (v, c) 2 (λ n. (n + 1) % 2 ^ 64) (CountsMade (v, c))
   counts_made_as slots id v c d e is on longer short = subst (λ (c : Slots). Allows (KeptIn G opened seats) slots id (v, c) 2 (λ n. (n + 1) % 2 ^ 64) (CountsMade (v, c))) (sym is) (counts_made slots id v d e on longer short)
 
-  pub notes_settled_as : (slots id : ℕ) (v : SeatView K) (c : Slots) (d : Seated K) → c ≡ (0, Some d) ∷ [] → v.turns ≡ 1 → IfSome v.keeper (λ keeper. KeeperFollows G keeper d.keeper) → Allows (KeptIn G opened seats) slots id (v, c) 1 (λ n. n) (NotesSettled (v, c))
+  pub notes_settled_as : (slots id : ℕ) (v : SeatView K) (c : Slots) (d : DeskState K) → c ≡ (0, Some d) ∷ [] → v.turns ≡ 1 → IfSome v.keeper (λ keeper. KeeperFollows G keeper d.keeper) → Allows (KeptIn G opened seats) slots id (v, c) 1 (λ n. n) (NotesSettled (v, c))
   notes_settled_as slots id v c d is on goes = subst (λ (c : Slots). Allows (KeptIn G opened seats) slots id (v, c) 1 (λ n. n) (NotesSettled (v, c))) (sym is) (notes_settled slots id v d on goes)
 
-  pub notes_keeper_as : (slots id : ℕ) (v : SeatView K) (c : Slots) (d : Seated K) → c ≡ (0, Some d) ∷ [] → v.turns ≡ 1 → IfSome v.keeper (λ keeper. KeeperFollows G keeper d.keeper) → Allows (KeptIn G opened seats) slots id (v, c) 1 (λ n. n) (NotesKeeper (v, c))
+  pub notes_keeper_as : (slots id : ℕ) (v : SeatView K) (c : Slots) (d : DeskState K) → c ≡ (0, Some d) ∷ [] → v.turns ≡ 1 → IfSome v.keeper (λ keeper. KeeperFollows G keeper d.keeper) → Allows (KeptIn G opened seats) slots id (v, c) 1 (λ n. n) (NotesKeeper (v, c))
   notes_keeper_as slots id v c d is on goes = subst (λ (c : Slots). Allows (KeptIn G opened seats) slots id (v, c) 1 (λ n. n) (NotesKeeper (v, c))) (sym is) (notes_keeper slots id v d on goes)
 
-  pub passes_as : (slots id : ℕ) (v : SeatView K) (c : Slots) (d : Seated K) → c ≡ (0, Some d) ∷ [] → v.turns ≡ 1 → IsOf G v d → d.book ≡ v.book → d.doubt ≡ v.doubt → v.keeper ≡ Some d.keeper
+  pub passes_as : (slots id : ℕ) (v : SeatView K) (c : Slots) (d : DeskState K) → c ≡ (0, Some d) ∷ [] → v.turns ≡ 1 → IsOf G v d → d.book ≡ v.book → d.doubt ≡ v.doubt → v.keeper ≡ Some d.keeper
       → Allows (KeptIn G opened seats) slots id (v, c) 1 (λ n. (n + 1) % 2 ^ 64) (Passes (v, c))
   passes_as slots id v c d is on of same doubt keeper = subst (λ (c : Slots). Allows (KeptIn G opened seats) slots id (v, c) 1 (λ n. (n + 1) % 2 ^ 64) (Passes (v, c))) (sym is) (passes slots id v d on of same doubt keeper)
 
-  pub checks_turn_as : (slots id : ℕ) (m : Me (Option (Seated K)) (SeatView K)) (v : SeatView K) (c : Slots) → m ≡ (v, c) → v.waits ≡ 1 → v.turns ≡ 0 → Allows (KeptIn G opened seats) slots id m 1 (λ n. n) (ChecksTurn G m)
-  checks_turn_as slots id m v c is wait off = subst (λ (m : Me (Option (Seated K)) (SeatView K)). Allows (KeptIn G opened seats) slots id m 1 (λ n. n) (ChecksTurn G m)) (sym is) (checks_turn slots id v c wait off)
+  pub checks_turn_as : (slots id : ℕ) (m : Me (Option (DeskState K)) (SeatView K)) (v : SeatView K) (c : Slots) → m ≡ (v, c) → v.waits ≡ 1 → v.turns ≡ 0 → Allows (KeptIn G opened seats) slots id m 1 (λ n. n) (ChecksTurn G m)
+  checks_turn_as slots id m v c is wait off = subst (λ (m : Me (Option (DeskState K)) (SeatView K)). Allows (KeptIn G opened seats) slots id m 1 (λ n. n) (ChecksTurn G m)) (sym is) (checks_turn slots id v c wait off)

@@ -11,12 +11,13 @@ use Rattle.atomic_table.specs.Table.{State, Splits, Joins, opening, Seen, Final}
 use Rattle.atomic_table.proofs.Lists.{at_set, at_snoc, at_longer, set_else}
 use Rattle.rv_book.specs.declared.entry.Entry.{Entry}
 use Rattle.rv_book.specs.Book.{Book, size, Extends}
-use Rattle.rv_book.specs.BookWords.{extends_same}
+use Rattle.rv_book.specs.BookWordLaws.{extends_same}
 use Rattle.rv_history.specs.Served.{IsNoClosing, Next}
 use Rattle.rv_keeper.specs.declared.keeper.Keeper.{Ghosts}
-use Rattle.rv_desk.specs.Seated.{Seated}
+use Rattle.rv_desk.specs.DeskStates.{DeskState}
 use Rattle.rv_room.specs.declared.view.SeatView.{SeatView}
-use Rattle.rv_room.specs.Following.{KeeperFollows, FollowsAll, follows_same}
+use Rattle.rv_room.specs.Following.{KeeperFollows, FollowsAll}
+use Rattle.rv_room.specs.FollowingLaws.{follows_same}
 use Rattle.rv_room.specs.Lists.{total, once_below, count_at}
 use Rattle.rv_room.specs.Views.{newcomer, spent, IsIdle, less_one, one_more, longer, both}
 use Rattle.rv_room.specs.Rule.{seat_parts, waits_of, own_at, IsLeftBySeat, SeatFits, IsOut, Keeps, AtHome, KeptIn, StandsAfter}
@@ -52,15 +53,15 @@ module _ {K : Type 0} where
       (λ not_other. (l.0, l.1, set_else (set views id b) other l.0 gone not_other ∙ (set_else views id l.0 b not_id ∙ l.2), l.3)))
 
 module _ {K : Type 0} (G : Ghosts K) where
-  new_fits : (opened : Seated K) (log : Book) (front n parts : ℕ) (keeper : K) → Extends log opened.book → SeatFits G opened log front n keeper (newcomer parts opened)
+  new_fits : (opened : DeskState K) (log : Book) (front n parts : ℕ) (keeper : K) → Extends log opened.book → SeatFits G opened log front n keeper (newcomer parts opened)
   new_fits opened log front n parts keeper begun = record { once = omega arith; part = omega arith; waits = omega arith; line = (λ w. absurd (omega arith)); turn = (λ t. absurd (omega arith)); knows = (λ _. refl); seen = (λ _. begun); joined = tt; own = tt; after = tt; spent = (λ _. (refl, refl)) }
 
-  spent_fits : (opened : Seated K) (log : Book) (front n : ℕ) (keeper : K) → SeatFits G opened log front n keeper spent
+  spent_fits : (opened : DeskState K) (log : Book) (front n : ℕ) (keeper : K) → SeatFits G opened log front n keeper spent
   spent_fits opened log front n keeper = record { once = omega arith; part = omega arith; waits = omega arith; line = (λ w. absurd (omega arith)); turn = (λ t. absurd (omega arith)); knows = (λ some. absurd (omega arith)); seen = (λ some. absurd (omega arith)); joined = tt; own = tt; after = tt; spent = (λ _. (refl, refl)) }
 
-module _ {K : Type 0} (G : Ghosts K) (opened : Seated K) (seats : ℕ) where
+module _ {K : Type 0} (G : Ghosts K) (opened : DeskState K) (seats : ℕ) where
   abbrev Homes : Type 0
-  Homes = List (maybe.Option (Option (Seated K)))
+  Homes = List (maybe.Option (Option (DeskState K)))
 
   abbrev Home : Book → K → Homes → List (SeatView K) → Type 0
   Home = AtHome G opened
@@ -68,7 +69,7 @@ module _ {K : Type 0} (G : Ghosts K) (opened : Seated K) (seats : ℕ) where
   abbrev Slot : Book → K → Homes → List (SeatView K) → Type 0
   Slot log keeper homes views = Home log keeper homes views ⊎ IsOut homes views
 
-  abbrev Holds : State (Option (Seated K)) (SeatView K) → Type 0
+  abbrev Holds : State (Option (DeskState K)) (SeatView K) → Type 0
   Holds = KeptIn G opened seats
 
   slot_snoc : (log : Book) (keeper : K) (homes : Homes) (views : List (SeatView K)) (w : SeatView K) → w.turns ≡ 0 → Slot log keeper homes views → Slot log keeper homes (views ++ w ∷ [])
@@ -217,8 +218,8 @@ module _ {K : Type 0} (G : Ghosts K) (opened : Seated K) (seats : ℕ) where
       }
 
   -- what the seat with all parts learns at the end
-  pub record Closing (v : SeatView K) (homes : List (Option (Seated K))) : Type 0 where
-    pub desk : Seated K
+  pub record Closing (v : SeatView K) (homes : List (Option (DeskState K))) : Type 0 where
+    pub desk : DeskState K
     pub home : get_elem? homes 0 ≡ some (Some desk)
     pub keeps : Keeps G opened desk
     pub begun : Extends desk.book opened.book
@@ -230,7 +231,7 @@ module _ {K : Type 0} (G : Ghosts K) (opened : Seated K) (seats : ℕ) where
     pub doubt : (e : Entry) → desk.doubt ≡ Some (Next.entry e) → (k : ℕ) × (slice_get v.left k ≡ Some (Next.entry e))
     pub after : FollowsAll G v.after desk.keeper
 
-  pub closing : (id : ℕ) (v : SeatView K) (words : List ℕ) (homes : List (Option (Seated K))) → IsIdle v → v.parts ≡ seats → 0 < seats → Final (Seen Holds id v) words homes → Closing v homes
+  pub closing : (id : ℕ) (v : SeatView K) (words : List ℕ) (homes : List (Option (DeskState K))) → IsIdle v → v.parts ≡ seats → 0 < seats → Final (Seen Holds id v) words homes → Closing v homes
   closing id v words homes idle all any final =
       let s = final.0 in
       let k : Holds s = final.1.0 in
@@ -240,7 +241,7 @@ module _ {K : Type 0} (G : Ghosts K) (opened : Seated K) (seats : ℕ) where
       (λ (t : IsOut s.homes s.views). absurd (nobody s k at t.who t.view t.at t.turn))
       k.slot
     where
-      mine : (s : State (Option (Seated K)) (SeatView K)) (k : Holds s) → At s.views id v → (e : Entry) → IsLeftBySeat s.views e → (m : ℕ) × (slice_get v.left m ≡ Some (Next.entry e))
+      mine : (s : State (Option (DeskState K)) (SeatView K)) (k : Holds s) → At s.views id v → (e : Entry) → IsLeftBySeat s.views e → (m : ℕ) × (slice_get v.left m ≡ Some (Next.entry e))
       mine s k at e l =
           dite (ℕ_discrete l.0 id)
           (λ same. (l.3.0, ap (λ (u : SeatView K). slice_get u.left l.3.0) (sym (same_at s.views l.0 id l.1 v l.2 at same)) ∙ l.3.1))
@@ -255,13 +256,13 @@ module _ {K : Type 0} (G : Ghosts K) (opened : Seated K) (seats : ℕ) where
           nothing : (m : ℕ) (e : Entry) → slice_get {X = Next} [] m ≡ Some (Next.entry e) → ⊥
           nothing m e h = absurd (cc)
 
-      nobody : (s : State (Option (Seated K)) (SeatView K)) (k : Holds s) → At s.views id v → (j : ℕ) (u : SeatView K) → At s.views j u → u.turns ≡ 1 → ⊥
+      nobody : (s : State (Option (DeskState K)) (SeatView K)) (k : Holds s) → At s.views id v → (j : ℕ) (u : SeatView K) → At s.views j u → u.turns ≡ 1 → ⊥
       nobody s k at j u there on =
           let whole = total_alone waits_of seat_parts s.views id v at (k.parts ∙ sym all) (λ i u e z. let p = (k.each i u e).part in omega arith) in
           let has = total_has waits_of s.views j u there in
           let f = k.each j u there in let w = f.waits in let i0 = idle.0 in omega arith
 
-      closed : (s : State (Option (Seated K)) (SeatView K)) (k : Holds s) → At s.views id v → Home k.log k.keeper s.homes s.views → ((i : ℕ) (y : Option (Seated K)) → get_elem? s.homes i ≡ some (some y) → get_elem? homes i ≡ some y) → Closing v homes
+      closed : (s : State (Option (DeskState K)) (SeatView K)) (k : Holds s) → At s.views id v → Home k.log k.keeper s.homes s.views → ((i : ℕ) (y : Option (DeskState K)) → get_elem? s.homes i ≡ some (some y) → get_elem? homes i ≡ some y) → Closing v homes
       closed s k at h gives = let f = k.each id v at in let d = h.desk in let is = h.book in record {
         desk = d;
         home = gives 0 (Some d) (ap (λ hs. get_elem? hs 0) h.home);
@@ -302,9 +303,9 @@ module _ {K : Type 0} where
   gather_left v [] k e g = inl (k, g)
   gather_left v (w ∷ ws) k e g = ⊎_elim (λ t. inr (gather_left v ws t.0 e t.1)) (λ t. inl t) (get_split (gather v ws).left w.left k (Next.entry e) g)
 
-module _ {K : Type 0} (G : Ghosts K) (opened : Seated K) where
+module _ {K : Type 0} (G : Ghosts K) (opened : DeskState K) where
   -- what is known of the book that was closed, from what the one view knows
-  closes : (v : SeatView K) (ws : List (SeatView K)) (homes : List (Option (Seated K))) (c : Closing G opened (total seat_parts (ws ++ v ∷ [])) (gather v ws) homes) → Closes G opened (ws ++ v ∷ []) c.desk
+  closes : (v : SeatView K) (ws : List (SeatView K)) (homes : List (Option (DeskState K))) (c : Closing G opened (total seat_parts (ws ++ v ∷ [])) (gather v ws) homes) → Closes G opened (ws ++ v ∷ []) c.desk
   closes v ws homes c =
       let own = gather_all (λ v. v.own) (λ v w. refl) (StandsAfter c.desk.book) v ws c.own in
       let after = gather_all (λ v. v.after) (λ v w. refl) (λ keeper. KeeperFollows G keeper c.desk.keeper) v ws c.after in
@@ -323,12 +324,12 @@ module _ {K : Type 0} (G : Ghosts K) (opened : Seated K) where
   pub splits_as : (seats id : ℕ) (v : SeatView K) (n : ℕ) → v ≡ newcomer n opened → 1 < n → Splits (KeptIn G opened seats) id v (less_one v) (one_more v)
   splits_as seats id v n is many = subst (λ (v : SeatView K). Splits (KeptIn G opened seats) id v (less_one v) (one_more v)) (sym is) (splits G opened seats id n many)
 
-  pub begins_as : (signals : List ℕ) (seats : ℕ) (d : Seated K) (len : ℕ) (items : List (Option (Seated K))) → seats < 2 ^ 32 → d ≡ opened → d.doubt ≡ None → len ≡ size d.book → items ≡ Some d ∷ []
+  pub begins_as : (signals : List ℕ) (seats : ℕ) (d : DeskState K) (len : ℕ) (items : List (Option (DeskState K))) → seats < 2 ^ 32 → d ≡ opened → d.doubt ≡ None → len ≡ size d.book → items ≡ Some d ∷ []
       → KeptIn G opened seats (opening (0 ∷ 0 ∷ len ∷ signals) items (newcomer seats opened))
   begins_as signals seats d len items few is sure size_is all =
-      let sure' : opened.doubt ≡ None = subst (λ (x : Seated K). x.doubt ≡ None) is sure in
-      subst (λ (t : ℕ × List (Option (Seated K))). KeptIn G opened seats (opening (0 ∷ 0 ∷ t.0 ∷ signals) t.1 (newcomer seats opened)))
-      (λ i. (sym (size_is ∙ ap (λ (x : Seated K). size x.book) is) i, sym (all ∙ ap (λ (x : Seated K). Some x ∷ []) is) i))
+      let sure' : opened.doubt ≡ None = subst (λ (x : DeskState K). x.doubt ≡ None) is sure in
+      subst (λ (t : ℕ × List (Option (DeskState K))). KeptIn G opened seats (opening (0 ∷ 0 ∷ t.0 ∷ signals) t.1 (newcomer seats opened)))
+      (λ i. (sym (size_is ∙ ap (λ (x : DeskState K). size x.book) is) i, sym (all ∙ ap (λ (x : DeskState K). Some x ∷ []) is) i))
       (begins G opened seats signals few sure')
 
   pub joins_as : (seats id : ℕ) (v : SeatView K) (other : ℕ) (w first : SeatView K) (done : List (SeatView K)) → v ≡ gather first done → IsIdle first → first.parts ≡ 1 → IsIdle w → w.parts ≡ 1 → Joins (KeptIn G opened seats) id v other w (both v w) spent
@@ -337,9 +338,9 @@ module _ {K : Type 0} (G : Ghosts K) (opened : Seated K) where
       joins G opened seats id v other w (subst IsIdle (sym is) (gather_idle first done idle)) iw (omega arith) (omega arith)
 
   -- the desk of a room that was closed
-  pub shut : (seats id : ℕ) (v : SeatView K) (words : List ℕ) (homes : List (Option (Seated K))) (first : SeatView K) (ws : List (SeatView K))
+  pub shut : (seats id : ℕ) (v : SeatView K) (words : List ℕ) (homes : List (Option (DeskState K))) (first : SeatView K) (ws : List (SeatView K))
       → v ≡ gather first ws → IsIdle first → first.parts ≡ 1 → total seat_parts (ws ++ first ∷ []) ≡ seats → Final (Seen (KeptIn G opened seats) id v) words homes
-      → (slot : Option (Seated K)) → get_elem? homes 0 ≡ some slot → (d : Seated K) × (slot ≡ Some d) × Closes G opened (ws ++ first ∷ []) d
+      → (slot : Option (DeskState K)) → get_elem? homes 0 ≡ some slot → (d : DeskState K) × (slot ≡ Some d) × Closes G opened (ws ++ first ∷ []) d
   shut seats id v words homes first ws is idle one all final slot at =
       let t = total_snoc seat_parts ws first in
       let p = gather_parts first ws in
@@ -349,9 +350,9 @@ module _ {K : Type 0} (G : Ghosts K) (opened : Seated K) where
       (c'.desk, some-injective _ _ (sym at ∙ c'.home), closes first ws homes c')
 
   -- the same, of a desk that was found in the slot
-  pub shut_at : (seats id : ℕ) (v : SeatView K) (words : List ℕ) (homes : List (Option (Seated K))) (first : SeatView K) (ws : List (SeatView K))
+  pub shut_at : (seats id : ℕ) (v : SeatView K) (words : List ℕ) (homes : List (Option (DeskState K))) (first : SeatView K) (ws : List (SeatView K))
       → v ≡ gather first ws → IsIdle first → first.parts ≡ 1 → total seat_parts (ws ++ first ∷ []) ≡ seats → Final (Seen (KeptIn G opened seats) id v) words homes
-      → (slot : Option (Seated K)) → get_elem? homes 0 ≡ some slot → (d : Seated K) → slot ≡ Some d → Closes G opened (ws ++ first ∷ []) d
+      → (slot : Option (DeskState K)) → get_elem? homes 0 ≡ some slot → (d : DeskState K) → slot ≡ Some d → Closes G opened (ws ++ first ∷ []) d
   shut_at seats id v words homes first ws is idle one all final slot at d found =
       let s = shut seats id v words homes first ws is idle one all final slot at in
-      subst (λ (x : Seated K). Closes G opened (ws ++ first ∷ []) x) (some_same _ _ (sym s.1 ∙ found)) s.2
+      subst (λ (x : DeskState K). Closes G opened (ws ++ first ∷ []) x) (some_same _ _ (sym s.1 ∙ found)) s.2

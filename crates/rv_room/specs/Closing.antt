@@ -5,7 +5,7 @@ use Rattle.rv_book.specs.declared.entry.Entry.{Entry}
 use Rattle.rv_book.specs.Book.{size, Extends}
 use Rattle.rv_history.specs.Served.{Next}
 use Rattle.rv_keeper.specs.declared.keeper.Keeper.{Ghosts}
-use Rattle.rv_desk.specs.Seated.{Seated}
+use Rattle.rv_desk.specs.DeskStates.{DeskState}
 use Rattle.rv_room.specs.declared.view.SeatView.{SeatView}
 use Rattle.rv_room.specs.Following.{FollowsAll}
 use Rattle.rv_room.specs.Lists.{total, once_below}
@@ -26,7 +26,7 @@ module _ {K : Type 0} where
 -- The seats of a room that was opened with a desk and closed with one. The book goes on from the opened one, and from what each seat had
 -- seen; what a seat made stands in it at its place; each place after the opened book is own of one seat, and once; what one settled,
 -- and what is in doubt, some seat had left, and no closing is in doubt; the keeper follows the one that the room was opened with, and each that a seat remembers.
-pub record Closes {K : Type 0} (G : Ghosts K) (opened : Seated K) (views : List (SeatView K)) (desk : Seated K) : Type 0 where
+pub record Closes {K : Type 0} (G : Ghosts K) (opened : DeskState K) (views : List (SeatView K)) (desk : DeskState K) : Type 0 where
   pub keeps : Keeps G opened desk
   pub begun : Extends desk.book opened.book
   pub seen : AllByRecursion (λ v. Extends desk.book v.seen) views

@@ -1,5 +1,6 @@
 pub mod Lists
 pub mod Following
+pub mod FollowingLaws
 pub mod Views
 pub mod Rule
 pub mod Plays

@@ -4,7 +4,7 @@ use Rattle.atomic_table.specs.Table.{Me}
 use Rattle.rv_book.specs.Book.{empty_book, Extends}
 use Rattle.rv_history.specs.Served.{with_doubt}
 use Rattle.rv_keeper.specs.declared.keeper.Keeper.{Ghosts}
-use Rattle.rv_desk.specs.Seated.{Seated}
+use Rattle.rv_desk.specs.DeskStates.{DeskState}
 use Rattle.rv_room.specs.declared.view.SeatView.{SeatView}
 use Rattle.rv_room.specs.Following.{FollowsAll}
 use Rattle.rv_room.specs.Rule.{IsOf}
@@ -12,11 +12,11 @@ use Rattle.rv_room.specs.Views.{waiting, on_turn, grown, entered, noted, with_ke
 
 -- what a seat knows, and the slots that it holds
 abbrev pub Knows : Type 0 → Type 0
-Knows K = Me (Option (Seated K)) (SeatView K)
+Knows K = Me (Option (DeskState K)) (SeatView K)
 
 module _ {K : Type 0} where
   -- of the desk that the seat carries
-  abbrev pub carried : {X : Type 0} → (Seated K → X) → X → List (ℕ × Option (Seated K)) → X
+  abbrev pub carried : {X : Type 0} → (DeskState K → X) → X → List (ℕ × Option (DeskState K)) → X
   carried f x ((k, Some d) ∷ slots) = f d
   carried f x ((k, None) ∷ slots) = x
   carried f x [] = x
@@ -34,7 +34,7 @@ module _ {K : Type 0} where
   abbrev pub ChecksTurn : Ghosts K → Knows K → ℕ → Knows K → Type 0
   ChecksTurn G m n m' =
       (n ≢ m.0.ticket % 2 ^ 64 → m' ≡ m)
-      × (n ≡ m.0.ticket % 2 ^ 64 → (d : Seated K) × IsOf G m.0 d × Extends d.book m.0.seen × FollowsAll G m.0.after d.keeper × (m' ≡ (on_turn G.faults m.0 d, (0, Some d) ∷ m.1)))
+      × (n ≡ m.0.ticket % 2 ^ 64 → (d : DeskState K) × IsOf G m.0 d × Extends d.book m.0.seen × FollowsAll G m.0.after d.keeper × (m' ≡ (on_turn G.faults m.0 d, (0, Some d) ∷ m.1)))
 
   -- the entry that was in doubt has entered the book
   abbrev pub CountsSettled : Knows K → ℕ → Knows K → Type 0

@@ -10,7 +10,7 @@ use Rattle.rv_book.specs.declared.entry.Entry.{Entry}
 use Rattle.rv_book.specs.Book.{Book, entry_at, size, Extends}
 use Rattle.rv_history.specs.Served.{Doubt, IsNoClosing, Next}
 use Rattle.rv_keeper.specs.declared.keeper.Keeper.{Ghosts}
-use Rattle.rv_desk.specs.Seated.{Seated}
+use Rattle.rv_desk.specs.DeskStates.{DeskState}
 use Rattle.rv_room.specs.declared.view.SeatView.{SeatView}
 use Rattle.rv_room.specs.Following.{KeeperFollows, FollowsAll}
 use Rattle.rv_room.specs.Lists.{total, once_below, count_at}
@@ -37,7 +37,7 @@ module _ {K : Type 0} where
   DoubtIsLeft views doubt = (e : Entry) → doubt ≡ Some (Next.entry e) → IsLeftBySeat views e
 
   -- a seat has the turn, and the slot is empty
-  pub record IsOut (homes : List (maybe.Option (Option (Seated K)))) (views : List (SeatView K)) : Type 0 where
+  pub record IsOut (homes : List (maybe.Option (Option (DeskState K)))) (views : List (SeatView K)) : Type 0 where
     pub empty : homes ≡ none ∷ []
     pub who : ℕ
     pub view : SeatView K
@@ -47,18 +47,18 @@ module _ {K : Type 0} where
 
 module _ {K : Type 0} (G : Ghosts K) where
   -- the desk has kept the limit of the one that the room was opened with, no closing is in doubt, and its keeper follows that one's
-  pub record Keeps (opened d : Seated K) : Type 0 where
+  pub record Keeps (opened d : DeskState K) : Type 0 where
     pub limit : d.limit ≡ opened.limit
     pub doubt : IsNoClosing d.doubt
     pub keeper : KeeperFollows G opened.keeper d.keeper
 
   -- it is a desk of the seat's room
-  abbrev pub IsOf : SeatView K → Seated K → Type 0
-  IsOf v d = (opened : Seated K) × (v.opened ≡ Some opened) × Keeps opened d
+  abbrev pub IsOf : SeatView K → DeskState K → Type 0
+  IsOf v d = (opened : DeskState K) × (v.opened ≡ Some opened) × Keeps opened d
 
   -- What holds of one view, where the room was opened with this desk, this is the history, so many turns have ended, so many seats
   -- wait or have the turn, and this is the keeper.
-  pub record SeatFits (opened : Seated K) (log : Book) (front waiting : ℕ) (keeper : K) (v : SeatView K) : Type 0 where
+  pub record SeatFits (opened : DeskState K) (log : Book) (front waiting : ℕ) (keeper : K) (v : SeatView K) : Type 0 where
     pub once : v.waits ≤ 1
     pub part : v.waits ≤ v.parts
     pub waits : v.turns ≤ v.waits
@@ -72,8 +72,8 @@ module _ {K : Type 0} (G : Ghosts K) where
     pub spent : v.parts ≡ 0 → (v.own ≡ []) × (v.left ≡ [])
 
   -- The desk is at home, where its book is the history and what is in doubt was left by some seat, and nobody has the turn.
-  pub record AtHome (opened : Seated K) (log : Book) (keeper : K) (homes : List (maybe.Option (Option (Seated K)))) (views : List (SeatView K)) : Type 0 where
-    pub desk : Seated K
+  pub record AtHome (opened : DeskState K) (log : Book) (keeper : K) (homes : List (maybe.Option (Option (DeskState K)))) (views : List (SeatView K)) : Type 0 where
+    pub desk : DeskState K
     pub home : homes ≡ some (Some desk) ∷ []
     pub book : desk.book ≡ log
     pub keeper_is : desk.keeper ≡ keeper
@@ -81,7 +81,7 @@ module _ {K : Type 0} (G : Ghosts K) where
     pub doubt : DoubtIsLeft views desk.doubt
     pub nobody : (j : ℕ) (v : SeatView K) → get_elem? views j ≡ some v → v.turns ≡ 0
 
-  pub record Kept (opened : Seated K) (seats : ℕ) (words : List ℕ) (homes : List (maybe.Option (Option (Seated K)))) (views : List (SeatView K)) : Type 0 where
+  pub record Kept (opened : DeskState K) (seats : ℕ) (words : List ℕ) (homes : List (maybe.Option (Option (DeskState K)))) (views : List (SeatView K)) : Type 0 where
     pub log : Book
     pub front : ℕ
     pub keeper : K
@@ -98,5 +98,5 @@ module _ {K : Type 0} (G : Ghosts K) where
     -- what one view settled was left by some seat
     pub left : (j : ℕ) (v : SeatView K) → get_elem? views j ≡ some v → AllByRecursion (IsLeftBySeat views) v.settled
 
-  abbrev pub KeptIn : Seated K → ℕ → State (Option (Seated K)) (SeatView K) → Type 0
+  abbrev pub KeptIn : DeskState K → ℕ → State (Option (DeskState K)) (SeatView K) → Type 0
   KeptIn opened seats s = Kept opened seats s.words s.homes s.views

@@ -4,7 +4,7 @@ use Rattle.rv_book.specs.Book.{size, Extends}
 use Rattle.rv_history.specs.Marks.{IsMark}
 use Rattle.rv_keeper.specs.declared.keeper.Keeper.{Ghosts}
 use Rattle.rv_doubt.specs.Kept.{KeepsBook}
-use Rattle.rv_desk.specs.Seated.{Seated}
+use Rattle.rv_desk.specs.DeskStates.{DeskState}
 use Rattle.rv_room.specs.declared.view.SeatView.{SeatView}
 use Rattle.rv_room.specs.Following.{FollowsAll}
 use Rattle.rv_room.specs.Rule.{Keeps}
@@ -13,8 +13,8 @@ use Rattle.rv_room.specs.Rule.{Keeps}
 -- the seat has for a turn and leaves as it is. That desk is of the room as in a turn of the seat, its keeper keeps its book, and that goes on
 -- from what the seat had seen. Then the seat has seen that book; it has nothing more of its own.
 pub record IsSeatMark {K : Type 0} (G : Ghosts K) (old : SeatView K) (user : List ℕ) (mark : ℕ) (new : SeatView K) : Type 0 where
-  pub opened : Seated K
-  pub desk : Seated K
+  pub opened : DeskState K
+  pub desk : DeskState K
   pub room : old.opened ≡ Some opened
   pub keeps : Keeps G opened desk
   pub begins : Extends desk.book old.seen

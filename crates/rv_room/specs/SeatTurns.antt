@@ -3,9 +3,9 @@ use Rattle.std.specs.Prelude.{◌≡◌, ℕ, ◌+◌, ◌≤◌, ◌<◌, ◌^�
 use Rattle.rv_book.specs.Book.{size, since, Extends}
 use Rattle.rv_turns.specs.Asks.{Ask, IsClosing}
 use Rattle.rv_turns.specs.declared.outcome.Outcome.{Outcome}
-use Rattle.rv_history.specs.Reading.{turn_entries}
+use Rattle.rv_history.specs.Reading.{turn_steps}
 use Rattle.rv_keeper.specs.declared.keeper.Keeper.{Ghosts}
-use Rattle.rv_desk.specs.Seated.{DeskTakes, Seated}
+use Rattle.rv_desk.specs.DeskStates.{DeskTakes, DeskState}
 use Rattle.rv_room.specs.declared.view.SeatView.{SeatView}
 use Rattle.rv_room.specs.Following.{FollowsAll}
 use Rattle.rv_room.specs.Lists.{numbered}
@@ -18,9 +18,9 @@ use Rattle.rv_room.specs.Views.{option_items}
 -- number of entries before it; and remembers what it left in doubt, the keeper as it was then, and the rest. That the desk is that of the
 -- room, the rule of its table says.
 pub record IsSeatTurn {K : Type 0} (G : Ghosts K) (old : SeatView K) (ask : Ask) (outcome : Outcome) (new : SeatView K) : Type 0 where
-  pub opened : Seated K
-  pub desk : Seated K
-  pub now : Seated K
+  pub opened : DeskState K
+  pub desk : DeskState K
+  pub now : DeskState K
   pub room : old.opened ≡ Some opened
   pub keeps : Keeps G opened desk
   pub begins : Extends desk.book old.seen
@@ -49,4 +49,4 @@ pub record SettlesSo {K : Type 0} (old : SeatView K) (settled : ℕ) (new : Seat
 -- The same with the steps that were counted before it and after: at most as many were taken as the walks of what is asked have entries
 -- at the book as it settled.
 abbrev pub IsSeatTurnWithin : {K : Type 0} → Ghosts K → SeatView K → Ask → Outcome → SeatView K → ℕ → ℕ → Type 0
-IsSeatTurnWithin G old ask outcome new before after = (taken : IsSeatTurn G old ask outcome new) × (after ≤ before + turn_entries ask taken.takes.turn.settled)
+IsSeatTurnWithin G old ask outcome new before after = (taken : IsSeatTurn G old ask outcome new) × (after ≤ before + turn_steps ask taken.takes.turn.settled)

@@ -3,7 +3,7 @@ use Rattle.std.specs.Prelude.{◌≡◌, ℕ, List}
 use Rattle.std.specs.List.{AllByRecursion}
 use Rattle.atomic_table.specs.Seated.{TableId}
 use Rattle.rv_keeper.specs.declared.keeper.Keeper.{Ghosts}
-use Rattle.rv_desk.specs.Seated.{Seated}
+use Rattle.rv_desk.specs.DeskStates.{DeskState}
 use Rattle.rv_room.specs.declared.room.Room.{Room}
 use Rattle.rv_room.specs.declared.seat.Seat.{Seat}
 use Rattle.rv_room.specs.declared.view.SeatView.{SeatView}
@@ -18,7 +18,7 @@ module _ {K : Type 0} where
   abbrev pub seats_of : Room K → ℕ
   seats_of room = room.table.shared.key.seats
 
-  abbrev pub opened_of : Room K → Seated K
+  abbrev pub opened_of : Room K → DeskState K
   opened_of room = room.table.shared.key.opened.value
 
 module _ {K : Type 0} {G : Ghosts K} where
@@ -35,5 +35,5 @@ abbrev pub AllOf : {K : Type 0} {G : Ghosts K} → TableId → List (Seat K G) �
 AllOf {K} {G} id seats = AllByRecursion (λ (seat : Seat K G). room_of seat ≡ id) seats
 
 -- each is a seat of this room which has had no turn
-abbrev pub AllNew : {K : Type 0} {G : Ghosts K} → TableId → Seated K → List (Seat K G) → Type 0
+abbrev pub AllNew : {K : Type 0} {G : Ghosts K} → TableId → DeskState K → List (Seat K G) → Type 0
 AllNew {K} {G} id opened seats = AllByRecursion (λ (seat : Seat K G). (room_of seat ≡ id) × (view_of seat ≡ newcomer 1 opened)) seats

@@ -2,7 +2,7 @@
 use Rattle.std.specs.Prelude.{◌≡◌, ℕ, ◌+◌, ◌-◌, nat_le, if◌then◌else◌, List, [], ◌∷◌, ◌++◌, Option, Some, None}
 use Rattle.rv_book.specs.Book.{Book, empty_book, size, since}
 use Rattle.rv_history.specs.Served.{Doubt}
-use Rattle.rv_desk.specs.Seated.{Seated}
+use Rattle.rv_desk.specs.DeskStates.{DeskState}
 use Rattle.rv_room.specs.declared.view.SeatView.{SeatView}
 use Rattle.rv_room.specs.Lists.{numbered}
 
@@ -16,7 +16,7 @@ longer xs ys = if nat_le (size xs) (size ys) then ys else xs
 
 module _ {K : Type 0} where
   -- seats that have had no turn in a room that was opened with this desk
-  abbrev pub newcomer : ℕ → Seated K → SeatView K
+  abbrev pub newcomer : ℕ → DeskState K → SeatView K
   newcomer parts opened = record {
     parts = parts;
     waits = 0;
@@ -66,11 +66,11 @@ module _ {K : Type 0} where
   waiting v t = record v { waits = 1; turns = 0; ticket = t; book = empty_book; doubt = None; keeper = None }
 
   -- it has the turn, knows the desk that is at home, and remembers how often its keeper has failed
-  abbrev pub on_turn : (K → ℕ) → SeatView K → Seated K → SeatView K
+  abbrev pub on_turn : (K → ℕ) → SeatView K → DeskState K → SeatView K
   on_turn faults v d = record v { turns = 1; book = d.book; doubt = d.doubt; keeper = Some d.keeper; before = v.before ++ faults d.keeper ∷ [] }
 
   -- it has the turn, and knows this desk as it is
-  abbrev pub KnowsDesk : SeatView K → Seated K → Type 0
+  abbrev pub KnowsDesk : SeatView K → DeskState K → Type 0
   KnowsDesk v d = (v.turns ≡ 1) × (d.book ≡ v.book) × (d.doubt ≡ v.doubt) × (v.keeper ≡ Some d.keeper)
 
   -- the history has become this: what was added is the seat's own

@@ -1,11 +1,11 @@
 // The desk of a room, in a box.
 ghost use Rattle.std.specs.Prelude.{◌≡◌, ◌≤◌, ◌+◌, None, IfOk, IfErr};
 ghost use Rattle.rv_history.specs.Marks.{IsMark};
-ghost use Rattle.rv_history.specs.Reading.{turn_entries};
+ghost use Rattle.rv_history.specs.Reading.{turn_steps};
 ghost use Rattle.rv_turns.specs.Asks.{ask_of};
 ghost use Rattle.rv_doubt.specs.Kept.{Assures, KeepsBook};
 ghost use Rattle.rv_doubt.specs.Settling.{HasSettled, settle_trouble};
-ghost use Rattle.rv_desk.specs.Seated.{DeskTakes, served};
+ghost use Rattle.rv_desk.specs.DeskStates.{DeskTakes, served};
 
 use rv_base::{Memory, Steps, User};
 use rv_book::Book;
@@ -22,9 +22,9 @@ pub struct BoxedDesk<K: Keeper> {
 }
 
 impl<K: Keeper> Model for BoxedDesk<K> {
-    ghost use Rattle.rv_desk.specs.Seated.{Seated};
+    ghost use Rattle.rv_desk.specs.DeskStates.{DeskState};
 
-    ghost Value = { Seated K };
+    ghost Value = { DeskState K };
 
     ghost view = { λ b. b.desk.value };
 }
@@ -73,7 +73,7 @@ impl<K: Keeper> BoxedDesk<K> {
     ) -> Outcome
         requires { self.old.doubt ≡ None }
         ensures turn { DeskTakes K.Keeper self.old (ask_of asked.entry) result self.new }
-        ensures most { steps.new ≤ steps.old + turn_entries (ask_of asked.entry) self.old.book }
+        ensures most { steps.new ≤ steps.old + turn_steps (ask_of asked.entry) self.old.book }
     {
         self.desk.take_settled(asked, steps)
     }

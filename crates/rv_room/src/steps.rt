@@ -2,9 +2,9 @@
 ghost use Rattle.std.specs.Prelude.{◌≡◌, ◌≢◌, ℕ, ◌^◌, ◌<◌, true, false, [], ◌∷◌, Some, None, IfSome};
 ghost use Rattle.rv_book.specs.Book.{Book, size, with_entry, Extends};
 ghost use Rattle.rv_book.specs.declared.entry.Entry.{Entry};
-ghost use Rattle.rv_history.specs.TurnLaws.{Adds};
+ghost use Rattle.rv_history.specs.Machine.{Adds};
 ghost use Rattle.rv_history.specs.Served.{IsNoClosing, Next, Settles};
-ghost use Rattle.rv_desk.specs.Seated.{Seated};
+ghost use Rattle.rv_desk.specs.DeskStates.{DeskState};
 ghost use Rattle.rv_room.specs.Following.{FollowsAll, KeeperFollows};
 ghost use Rattle.rv_room.specs.Ends.{end_view, held_view};
 ghost use Rattle.rv_room.specs.Rule.{IsOf};
@@ -33,7 +33,7 @@ impl<K: Keeper> Room<K> {
     // Takes the desk out of its slot.
     fn take_out(&self, token: &mut Token<K>) -> BoxedDesk<K>
         requires table { token.old.table_id ≡ self.now.table.shared.table_id }
-        requires out { (d : Seated K) × (token.old.me.1 ≡ (0, Some d) ∷ []) }
+        requires out { (d : DeskState K) × (token.old.me.1 ≡ (0, Some d) ∷ []) }
         ensures same { (token.new.table_id ≡ token.old.table_id) × (token.new.id ≡ token.old.id) }
         ensures desk { token.old.me.1 ≡ (0, Some result) ∷ [] }
         ensures empty { token.new.me ≡ (token.old.me.0, (0, None) ∷ []) }
@@ -83,9 +83,9 @@ impl<K: Keeper> Room<K> {
     // Counts the entry that the step made.
     fn count_made(&self, token: &mut Token<K>)
         requires table { token.old.table_id ≡ self.now.table.shared.table_id }
-        requires grown { (d : Seated K) × (e : Entry) × (token.old.me.1 ≡ (0, Some d) ∷ []) × (token.old.me.0.turns ≡ 1) × (d.book ≡ with_entry token.old.me.0.book e) × (size d.book < 2 ^ 63) }
+        requires grown { (d : DeskState K) × (e : Entry) × (token.old.me.1 ≡ (0, Some d) ∷ []) × (token.old.me.0.turns ≡ 1) × (d.book ≡ with_entry token.old.me.0.book e) × (size d.book < 2 ^ 63) }
         ensures same { (token.new.table_id ≡ token.old.table_id) × (token.new.id ≡ token.old.id) }
-        ensures counted { (d : Seated K) → token.old.me.1 ≡ (0, Some d) ∷ [] → token.new.me ≡ (grown token.old.me.0 d.book, token.old.me.1) }
+        ensures counted { (d : DeskState K) → token.old.me.1 ≡ (0, Some d) ∷ [] → token.new.me ≡ (grown token.old.me.0 d.book, token.old.me.1) }
     {
         self.table.shared.fetch_add::<CountMade>(token, ENTRIES, 1);
     }
@@ -93,9 +93,9 @@ impl<K: Keeper> Room<K> {
     // Counts the entry that the step made, if it made one.
     fn count_made_if(&self, token: &mut Token<K>, made: bool)
         requires table { token.old.table_id ≡ self.now.table.shared.table_id }
-        requires grown { made ≡ true → (d : Seated K) × (e : Entry) × (token.old.me.1 ≡ (0, Some d) ∷ []) × (token.old.me.0.turns ≡ 1) × (d.book ≡ with_entry token.old.me.0.book e) × (size d.book < 2 ^ 63) }
+        requires grown { made ≡ true → (d : DeskState K) × (e : Entry) × (token.old.me.1 ≡ (0, Some d) ∷ []) × (token.old.me.0.turns ≡ 1) × (d.book ≡ with_entry token.old.me.0.book e) × (size d.book < 2 ^ 63) }
         ensures same { (token.new.table_id ≡ token.old.table_id) × (token.new.id ≡ token.old.id) }
-        ensures counted { made ≡ true → (d : Seated K) → token.old.me.1 ≡ (0, Some d) ∷ [] → token.new.me ≡ (grown token.old.me.0 d.book, token.old.me.1) }
+        ensures counted { made ≡ true → (d : DeskState K) → token.old.me.1 ≡ (0, Some d) ∷ [] → token.new.me ≡ (grown token.old.me.0 d.book, token.old.me.1) }
         ensures not { made ≡ false → token.new.me ≡ token.old.me }
     {
         if made {
@@ -106,9 +106,9 @@ impl<K: Keeper> Room<K> {
     // Looks at the desk after it has settled and stepped.
     fn note_settled(&self, token: &mut Token<K>)
         requires table { token.old.table_id ≡ self.now.table.shared.table_id }
-        requires carries { (d : Seated K) × (token.old.me.1 ≡ (0, Some d) ∷ []) × (token.old.me.0.turns ≡ 1) × IfSome token.old.me.0.keeper (λ keeper. KeeperFollows K.Keeper keeper d.keeper) }
+        requires carries { (d : DeskState K) × (token.old.me.1 ≡ (0, Some d) ∷ []) × (token.old.me.0.turns ≡ 1) × IfSome token.old.me.0.keeper (λ keeper. KeeperFollows K.Keeper keeper d.keeper) }
         ensures same { (token.new.table_id ≡ token.old.table_id) × (token.new.id ≡ token.old.id) }
-        ensures noted { (d : Seated K) → token.old.me.1 ≡ (0, Some d) ∷ [] → token.new.me ≡ (noted token.old.me.0 d.doubt (Some d.keeper), token.old.me.1) }
+        ensures noted { (d : DeskState K) → token.old.me.1 ≡ (0, Some d) ∷ [] → token.new.me ≡ (noted token.old.me.0 d.doubt (Some d.keeper), token.old.me.1) }
     {
         self.table.shared.load::<NoteSettled>(token, TURNS);
     }
@@ -116,9 +116,9 @@ impl<K: Keeper> Room<K> {
     // Looks at the desk after it could not settle.
     fn note_keeper(&self, token: &mut Token<K>)
         requires table { token.old.table_id ≡ self.now.table.shared.table_id }
-        requires carries { (d : Seated K) × (token.old.me.1 ≡ (0, Some d) ∷ []) × (token.old.me.0.turns ≡ 1) × IfSome token.old.me.0.keeper (λ keeper. KeeperFollows K.Keeper keeper d.keeper) }
+        requires carries { (d : DeskState K) × (token.old.me.1 ≡ (0, Some d) ∷ []) × (token.old.me.0.turns ≡ 1) × IfSome token.old.me.0.keeper (λ keeper. KeeperFollows K.Keeper keeper d.keeper) }
         ensures same { (token.new.table_id ≡ token.old.table_id) × (token.new.id ≡ token.old.id) }
-        ensures noted { (d : Seated K) → token.old.me.1 ≡ (0, Some d) ∷ [] → token.new.me ≡ (with_keeper token.old.me.0 (Some d.keeper), token.old.me.1) }
+        ensures noted { (d : DeskState K) → token.old.me.1 ≡ (0, Some d) ∷ [] → token.new.me ≡ (with_keeper token.old.me.0 (Some d.keeper), token.old.me.1) }
     {
         self.table.shared.load::<NoteKeeper>(token, TURNS);
     }

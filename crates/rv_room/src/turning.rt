@@ -93,6 +93,8 @@ impl<K: Keeper> Room<K> {
     }
 
     /// One mutation of a client, as a turn of a seat.
+    ///
+    /// Nothing in the program calls it, whose connections take turns by [`SeatTurns`](crate::SeatTurns): it is for who holds a seat alone.
     pub fn turn_mutate(
         &self,
         rt: &impl Wait,
@@ -121,6 +123,8 @@ impl<K: Keeper> Room<K> {
     }
 
     /// One pull, as a turn of a seat. It takes at most as many steps as its base's record and what is seen now have rows and clients.
+    ///
+    /// Nothing in the program calls it, whose connections take turns by [`SeatTurns`](crate::SeatTurns): it is for who holds a seat alone.
     pub fn turn_pull<L: Ledger>(
         &self,
         rt: &impl Wait,
@@ -137,6 +141,8 @@ impl<K: Keeper> Room<K> {
     }
 
     /// One retirement of a client group, as a turn of a seat.
+    ///
+    /// Nothing in the program calls it, whose connections take turns by [`SeatTurns`](crate::SeatTurns): it is for who holds a seat alone.
     pub fn turn_retire(&self, rt: &impl Wait, seat: &mut Seat<K>, group: &Id) -> Outcome
         requires { room_of seat.old ≡ id_of self.now }
         ensures same { room_of seat.new ≡ room_of seat.old }

@@ -1,7 +1,7 @@
 // How a seat comes to its turn, and how it passes the turn on.
 ghost use Rattle.std.specs.Prelude.{◌≡◌, ℕ, ◌+◌, ◌%◌, ◌^◌, ◌<◌, [], ◌∷◌, None, Some, IfSome};
 ghost use Rattle.rv_book.specs.Book.{Extends};
-ghost use Rattle.rv_desk.specs.Seated.{Seated};
+ghost use Rattle.rv_desk.specs.DeskStates.{DeskState};
 ghost use Rattle.rv_room.specs.Following.{FollowsAll};
 ghost use Rattle.rv_room.specs.Plays.{TakesTicket};
 ghost use Rattle.rv_room.specs.Rule.{IsOf};
@@ -132,7 +132,7 @@ impl<K: Keeper> Room<K> {
         requires table { token.old.table_id ≡ self.now.table.shared.table_id }
         requires waits { (token.old.me.0.waits ≡ 1) × (token.old.me.0.turns ≡ 0) × (token.old.me.0.ticket % 2 ^ 64 ≡ ticket) }
         ensures same { (token.new.table_id ≡ token.old.table_id) × (token.new.id ≡ token.old.id) }
-        ensures turn { (d : Seated K) × IsOf K.Keeper token.old.me.0 d × Extends d.book token.old.me.0.seen × FollowsAll K.Keeper token.old.me.0.after d.keeper ×
+        ensures turn { (d : DeskState K) × IsOf K.Keeper token.old.me.0 d × Extends d.book token.old.me.0.seen × FollowsAll K.Keeper token.old.me.0.after d.keeper ×
             (token.new.me ≡ (on_turn K.faults token.old.me.0 d, (0, Some d) ∷ token.old.me.1)) }
     {
         let bell = bell_of(ticket);
@@ -185,7 +185,7 @@ impl<K: Keeper> Room<K> {
     // one of those that sleep without.
     pub(crate) fn pass(&self, token: &mut Token<K>)
         requires table { token.old.table_id ≡ self.now.table.shared.table_id }
-        requires home { (d : Seated K) × (token.old.me.1 ≡ (0, Some d) ∷ []) × IsOf K.Keeper token.old.me.0 d × KnowsDesk token.old.me.0 d }
+        requires home { (d : DeskState K) × (token.old.me.1 ≡ (0, Some d) ∷ []) × IsOf K.Keeper token.old.me.0 d × KnowsDesk token.old.me.0 d }
         ensures same { (token.new.table_id ≡ token.old.table_id) × (token.new.id ≡ token.old.id) }
         ensures ended { token.new.me ≡ (ended token.old.me.0, []) }
     {

@@ -2,7 +2,7 @@
 use Rattle.std.proofs.Common.{◌≡◌, ℕ, Bool, true, false, List, [], ◌∷◌, None, refl, sym}
 use Rattle.std.specs.declared.cmp.Ordering.TheVariants.{Less, Greater}
 use Rattle.std.specs.List.{list_any}
-use Rattle.rv_base.specs.Positions.{Above}
+use Rattle.rv_base.specs.PositionLaws.{Above}
 use Rattle.rv_rows.specs.declared.key.Kind.TheVariants as kinds
 use Rattle.rv_rows.specs.declared.row.Row.{Row}
 use Rattle.rv_rows.specs.declared.row.Row.TheVariants as variants

@@ -8,7 +8,8 @@ use Rattle.std.specs.Ordering.{nat_cmp, match_ordering, ordering_then}
 use Rattle.std.specs.Cmp.Lexicographic.{slice_cmp}
 use Rattle.std.proofs.lemmas.Bool.Decides.{nat_tests}
 use Rattle.std.proofs.lemmas.Cmp.{nat_list_cmp_total, tied_itself}
-use Rattle.rv_base.specs.Positions.{Below, same_from}
+use Rattle.rv_base.specs.PositionLaws.{same_from}
+use Rattle.rv_base.specs.Sorted.{Below}
 use Rattle.rv_rows.specs.declared.filing.Filing.{Filing}
 use Rattle.rv_rows.specs.declared.filing.Filing.TheVariants as filings
 use Rattle.rv_rows.specs.declared.row.Row.{Row}

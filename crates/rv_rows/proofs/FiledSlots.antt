@@ -12,9 +12,9 @@ use Rattle.std.proofs.lemmas.Bool.Decides.{nat_tests}
 use Rattle.std.proofs.lemmas.Map.Text.{is_eq-slice_cmp}
 use Rattle.std.proofs.lemmas.Slice.Eq.{bytes_eq-Decides}
 use Rattle.std.proofs.lemmas.Cmp.{nat_list_cmp_total, tied_itself}
-use Rattle.rv_base.specs.Sorted.{InOrder}
-use Rattle.rv_base.specs.Positions.{Below, Above, same_from, in_order-filter}
-use Rattle.rv_pages.specs.Paging.{Rises}
+use Rattle.rv_base.specs.Sorted.{InOrder, Below}
+use Rattle.rv_base.specs.PositionLaws.{Above, same_from, in_order-filter}
+use Rattle.rv_chunks.specs.Chunking.{Rises}
 use Rattle.rv_rows.specs.Held.{Stored, stored_key, AreRows}
 use Rattle.rv_rows.specs.declared.filing.Filing.{Filing}
 use Rattle.rv_rows.specs.declared.row.Row.{Row}

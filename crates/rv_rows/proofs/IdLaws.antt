@@ -7,7 +7,7 @@ use Rattle.std.specs.List.{fold, AllByRecursion}
 use Rattle.std.proofs.lemmas.List.{take_more}
 use Rattle.rv_base.specs.Sorted.{put_by, sorted_by, is_in_order}
 use Rattle.rv_base.specs.RisingLaws.{in_order-from_test}
-use Rattle.rv_base.specs.Arranged.{sorted-push}
+use Rattle.rv_base.specs.ArrangedLaws.{sorted-push}
 use Rattle.rv_rows.specs.Extents.{AreLists}
 
 abbrev pub id : List ℕ → List ℕ

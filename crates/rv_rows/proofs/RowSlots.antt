@@ -13,8 +13,8 @@ use Rattle.std.proofs.lemmas.List.{get_or_append_left, length-append, length-map
 use Rattle.std.proofs.lemmas.Option.{none-some}
 use Rattle.std.proofs.Math.Seq.{get_or-append_seam}
 use Rattle.rv_base.specs.Sorted.{find_by, without, InOrder, IsPositionOf}
-use Rattle.rv_base.specs.Positions.{in_order-filter, in_order-put, in_order-without, find_put, find_without, equals}
-use Rattle.rv_base.specs.Arranged.{find-map, in_order-same}
+use Rattle.rv_base.specs.PositionLaws.{in_order-filter, in_order-put, in_order-without, find_put, find_without, equals}
+use Rattle.rv_base.specs.ArrangedLaws.{find-map, in_order-same}
 use Rattle.rv_rows.specs.Keys.{row_text}
 use Rattle.rv_rows.specs.Held.{Stored, stored_key, put, AreRows}
 use Rattle.rv_rows.specs.declared.filing.Filing.{Filing}

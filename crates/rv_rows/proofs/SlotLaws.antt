@@ -14,9 +14,9 @@ use Rattle.std.proofs.lemmas.Option.{none-some, same_Some}
 use Rattle.std.proofs.lemmas.Bool.Decides.{Decides-eqb}
 use Rattle.std.proofs.lemmas.Slice.Eq.{bytes_eq-Decides}
 use Rattle.std.proofs.lemmas.Cmp.{nat_list_cmp_total, tied_itself}
-use Rattle.rv_base.specs.Sorted.{find_by, InOrder, IsPositionOf}
-use Rattle.rv_base.specs.Positions.{Below, Above, equals, differs_back, find_found, settles}
-use Rattle.rv_base.specs.Arranged.{in_order-same, find-map}
+use Rattle.rv_base.specs.Sorted.{find_by, InOrder, IsPositionOf, Below}
+use Rattle.rv_base.specs.PositionLaws.{Above, equals, differs_back, find_found, settles}
+use Rattle.rv_base.specs.ArrangedLaws.{in_order-same, find-map}
 use Rattle.rv_rows.specs.Slots.{AreSame, relabelled, renamed}
 
 -- by cases on a test, with what it says

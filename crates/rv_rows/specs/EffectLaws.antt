@@ -7,8 +7,8 @@ use Rattle.std.specs.Bool.{Decides}
 use Rattle.std.proofs.lemmas.Slice.Eq.{bytes_eq-Decides, slice_eq-Decides}
 use Rattle.std.proofs.lemmas.Bool.Decides.{nat_tests, Decides-eqb, Decides-and}
 use Rattle.rv_base.specs.Sorted.{put_by, Distinct}
-use Rattle.rv_base.specs.Positions.{equals, found-any, none_found}
-use Rattle.rv_base.specs.Arranged.{distinct-filter, distinct-map, distinct-push, sorted-sorted, sorted-push, list_any-sorted, filter-sorted, map-sorted}
+use Rattle.rv_base.specs.PositionLaws.{equals, found-any, none_found}
+use Rattle.rv_base.specs.ArrangedLaws.{distinct-filter, distinct-map, distinct-push, sorted-sorted, sorted-push, list_any-sorted, filter-sorted, map-sorted}
 use Rattle.rv_rows.specs.declared.key.Kind.TheVariants as kinds
 use Rattle.rv_rows.specs.declared.role.Role.{Role}
 use Rattle.rv_rows.specs.declared.role.Role.TheVariants as roles

@@ -1,8 +1,8 @@
 -- The rows of a table without their versions: they stand in the order of their keys, and no two have one key.
 use Rattle.std.specs.Prelude.{ℕ, List, [], ◌∷◌}
 use Rattle.rv_base.specs.Sorted.{InOrder, Distinct}
-use Rattle.rv_base.specs.Positions.{Above}
-use Rattle.rv_base.specs.Arranged.{distinct-in_order}
+use Rattle.rv_base.specs.PositionLaws.{Above}
+use Rattle.rv_base.specs.ArrangedLaws.{distinct-in_order}
 use Rattle.rv_rows.specs.Keys.{row_text}
 use Rattle.rv_rows.specs.Held.{Stored, stored_key, rows_in, AreRows}
 

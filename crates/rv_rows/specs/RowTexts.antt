@@ -35,7 +35,8 @@ abbrev pub row_data : Row → Data
 row_data (variants.Extent row) = object (member (codes "lists") (ids_data row.lists) (member (codes "user") (string row.user) no_members))
 row_data (variants.List row) = object (member (codes "id") (string row.id) (member (codes "name") (string row.name) (member (codes "ownerID") (string row.owner) no_members)))
 row_data (variants.Share row) = object (member (codes "id") (string row.id) (member (codes "listID") (string row.list) (role_then row.role (member (codes "userID") (string row.user) no_members))))
-row_data (variants.Todo row) = object (member (codes "complete") (boolean row.complete) (member (codes "id") (string row.id) (member (codes "listID") (string row.list) (member (codes "sort") (number (unsigned row.sort)) (member (codes "text") (string row.text) no_members)))))
+row_data (variants.Todo row) = object (member (codes "complete") (boolean row.complete) (member (codes "id") (string row.id)
+    (member (codes "listID") (string row.list) (member (codes "sort") (number (unsigned row.sort)) (member (codes "text") (string row.text) no_members)))))
 
 -- the row's texts are within their bounds, and an extent's lists in order and at most 64
 abbrev pub RowIsWithin : Row → Type 0
@@ -103,7 +104,8 @@ either None other = other
 
 -- a share that lets edit, one that does not, or a todo
 abbrev pub share_or_todo_in : Members → Option Row
-share_or_todo_in members = either (option_map (λ row. variants.Share row) (share_row_in roles.Edit members)) (either (option_map (λ row. variants.Share row) (share_row_in roles.View members)) (option_map (λ row. variants.Todo row) (todo_row_in members)))
+share_or_todo_in members = either (option_map (λ row. variants.Share row) (share_row_in roles.Edit members))
+    (either (option_map (λ row. variants.Share row) (share_row_in roles.View members)) (option_map (λ row. variants.Todo row) (todo_row_in members)))
 
 -- a list, or what belongs to one
 abbrev pub listed_row_in : Members → Option Row

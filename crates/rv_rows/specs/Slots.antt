@@ -9,7 +9,7 @@ use Rattle.std.specs.Str.{bytes_eq}
 use Rattle.rv_base.specs.Sorted.{InOrder}
 use Rattle.rv_rows.specs.declared.row.Row.TheVariants.{List as ListRow}
 use Rattle.rv_rows.specs.Held.{Stored, AreRows}
-use Rattle.rv_pages.specs.Paging.{items}
+use Rattle.rv_chunks.specs.Chunking.{items}
 use Rattle.rv_rows.specs.declared.filing.Filing.{Filing}
 use Rattle.rv_rows.specs.declared.filing.Filing.TheVariants as filings
 use Rattle.rv_rows.specs.Filed.{under, filed_key}
@@ -48,7 +48,7 @@ pub record HasOrders (slots : List Stored) (by_key by_list by_user by_sort : Lis
   pub users : IsFiled filings.User slots by_key by_user
   pub sorts : IsFiled filings.Sort slots by_key by_sort
 
--- rows in slots, with the pages of the four orders of the slots, and the space that there is beside
+-- rows in slots, with the chunks of the four orders of the slots, and the space that there is beside
 pub record Slotted : Type 0 where
   pub slots : List Stored
   pub by_key : List (List ℕ)

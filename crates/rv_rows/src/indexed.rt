@@ -2,7 +2,7 @@ ghost use Rattle.std.specs.Prelude.{◌≡◌, ◌≤◌, ◌+◌, [], length, O
 ghost use Rattle.std.specs.List.{filter, insert, remove as removed};
 ghost use Rattle.std.specs.Str.{bytes_eq};
 ghost use Rattle.rv_base.specs.Sorted.{IsPositionOf};
-ghost use Rattle.rv_pages.specs.Paging.{index_of, place, IsItem, IsGap};
+ghost use Rattle.rv_chunks.specs.Chunking.{index_of, index_found, IsItem, IsGap};
 ghost use Rattle.rv_rows.specs.Keys.{key_text, row_text};
 ghost use Rattle.rv_rows.specs.Held.{find, put, rows_in, AreRows, stored_key};
 ghost use Rattle.rv_rows.specs.declared.filing.Filing.TheVariants as filings;
@@ -20,13 +20,13 @@ use crate::positions::{
 use crate::row::Row;
 use crate::rows_in_order::RowsInOrder;
 use rv_base::{Id, Memory};
-use rv_pages::{At, Pages};
+use rv_chunks::{At, Chunks};
 use std::alloc::Global;
 use std::marker::Model;
 
-// How many slots a page of an order has at most. Where a page is split the list of all pages moves, 24 bytes for each, so pages are as large
+// How many slots a chunk of an order has at most. Where a chunk is split the list of all chunks moves, 24 bytes for each, so chunks are as large
 // as moving within one is cheap: of 256 slots some 400 bytes.
-const PAGE: usize = 256;
+const CHUNK: usize = 256;
 
 // Rows with their versions, found by their keys, by their lists, by the users whom they name, and by their sorts in their lists.
 #[derive(Debug, Drop)]
@@ -34,27 +34,27 @@ pub(crate) struct IndexedRows {
     // the rows, each in a slot of its own, in no order
     slots: Vec<(Row, u32)>,
     // the slots in the order of their rows' keys
-    by_key: Pages<u32>,
+    by_key: Chunks<u32>,
     // the slots in the order of their rows' lists, and within a list in that of their keys
-    by_list: Pages<u32>,
+    by_list: Chunks<u32>,
     // the slots in the order of the users whom their rows name, and of one user in that of their keys
-    by_user: Pages<u32>,
+    by_user: Chunks<u32>,
     // the slots in the order of their rows' lists, within a list by their sorts from the greatest down, and of one sort in the
     // order of their keys
-    by_sort: Pages<u32>,
+    by_sort: Chunks<u32>,
     // the slots and each of the four orders have space for so many more
     spare: usize,
 }
 
 impl Model for IndexedRows {
-    ghost use Rattle.rv_pages.specs.Paging.{items};
+    ghost use Rattle.rv_chunks.specs.Chunking.{items};
     ghost use Rattle.rv_rows.specs.Slots.{Slotted, HasOrders, HaveSpace};
 
     ghost Value = { Slotted };
 
-    ghost view = { λ t. record { slots = t.slots.items; by_key = t.by_key.pages; by_list = t.by_list.pages; by_user = t.by_user.pages; by_sort = t.by_sort.pages; spare = t.spare } };
+    ghost view = { λ t. record { slots = t.slots.items; by_key = t.by_key.chunks; by_list = t.by_list.chunks; by_user = t.by_user.chunks; by_sort = t.by_sort.chunks; spare = t.spare } };
 
-    ghost invariant = { λ t. HasOrders t.slots.items (items t.by_key.pages) (items t.by_list.pages) (items t.by_user.pages) (items t.by_sort.pages) × HaveSpace t.slots t.by_key.spare t.by_list.spare t.by_user.spare t.by_sort.spare t.spare };
+    ghost invariant = { λ t. HasOrders t.slots.items (items t.by_key.chunks) (items t.by_list.chunks) (items t.by_user.chunks) (items t.by_sort.chunks) × HaveSpace t.slots t.by_key.spare t.by_list.spare t.by_user.spare t.by_sort.spare t.spare };
 }
 
 impl IndexedRows {
@@ -64,10 +64,10 @@ impl IndexedRows {
     {
         IndexedRows {
             slots: Vec::new(alloc),
-            by_key: Pages::new(alloc, PAGE),
-            by_list: Pages::new(alloc, PAGE),
-            by_user: Pages::new(alloc, PAGE),
-            by_sort: Pages::new(alloc, PAGE),
+            by_key: Chunks::new(alloc, CHUNK),
+            by_list: Chunks::new(alloc, CHUNK),
+            by_user: Chunks::new(alloc, CHUNK),
+            by_sort: Chunks::new(alloc, CHUNK),
             spare: 0,
         }
     }
@@ -96,7 +96,7 @@ impl IndexedRows {
 
     // Where the row of a key stands in the order of the keys, or where it would go.
     pub(crate) fn position(&self, kind: Kind, id: &str) -> Result<At, At>
-        ensures position { IsPositionOf stored_key (key_text (record { kind = kind; id = id.now })) (rows_of self.now) (place self.now.by_key result) }
+        ensures position { IsPositionOf stored_key (key_text (record { kind = kind; id = id.now })) (rows_of self.now) (index_found self.now.by_key result) }
         ensures at { MatchResult result (IsItem self.now.by_key) (IsGap self.now.by_key) }
         ensures order { AreRows (rows_of self.now) }
     {

@@ -31,20 +31,20 @@ impl Model for Lists {
 }
 
 // Where an id stands, or where it would go.
-fn place(ids: &[Id], id: &Id) -> Result<usize, usize>
+fn position(ids: &[Id], id: &Id) -> Result<usize, usize>
     requires { InOrder (λ i. i) ids.now }
     ensures { IsPositionOf (λ i. i) id.now ids.now result }
 {
     ids.binary_search_by(|other| other.cmp(id))
 }
 
-// Puts an id in its place among ids that stand in order, and in that of the same one where it is there.
+// Puts an id at its position among ids that stand in order, over the same one where it is there.
 fn put(ids: &mut Vec<Id>, id: Id) -> Result<(), Memory>
     requires { InOrder (λ i. i) ids.old.items }
     ensures ids { OnOk result (ids.new.items ≡ put_by (λ i. i) id ids.old.items) }
     ensures order { OnOk result (InOrder (λ i. i) ids.new.items) }
 {
-    match place(ids, &id) {
+    match position(ids, &id) {
         Ok(at) => {
             ids[at] = id;
             Ok(())
@@ -99,7 +99,7 @@ fn id_fits(id: &Id)
     ensures within { IsWithin 1 128 id.now }
     ensures valid { IsUtf8 id.now }
 {
-    let _bytes = id.as_str().as_bytes();
+    id.fits();
 }
 
 fn ids_fit(ids: &[Id])
@@ -158,7 +158,7 @@ impl Lists {
     pub fn has(&self, id: &Id) -> bool
         ensures { result ≡ list_any (bytes_eq id.now) self.now }
     {
-        match place(&self.ids, id) {
+        match position(&self.ids, id) {
             Ok(_) => true,
             Err(_) => false,
         }

@@ -2,7 +2,7 @@
 ghost use Rattle.std.specs.Prelude.{◌≡◌, ◌≤◌, ◌<◌, ◌+◌, None, nat_eq, ◌∷◌, ◌++◌, [], length, true, slice_index_or, slice_set, vec_len, vec_capacity, MatchResult, Err};
 ghost use Rattle.std.specs.List.{list_any, filter, remove};
 ghost use Rattle.rv_base.specs.Sorted.{IsPositionOf, InOrder, find_by};
-ghost use Rattle.rv_pages.specs.Paging.{items, index_of, place, IsItem, IsGap};
+ghost use Rattle.rv_chunks.specs.Chunking.{items, index_of, index_found, IsItem, IsGap};
 ghost use Rattle.rv_rows.specs.Keys.{key_text};
 ghost use Rattle.rv_rows.specs.Held.{AreRows, stored_key};
 ghost use Rattle.rv_rows.specs.Filed.{filed_key, filed_text, under};
@@ -11,7 +11,7 @@ ghost use Rattle.rv_rows.specs.Slots.{by_slot, standing, AreSlots, is_under, rel
 use crate::filing::Filing;
 use crate::key::Kind;
 use crate::row::Row;
-use rv_pages::{At, Compare, Pages, Walk};
+use rv_chunks::{At, Chunks, Compare, Walk};
 use std::cmp::Ordering;
 
 // A key that is looked for in the order of the keys. A slot that is not there stands below it.
@@ -38,14 +38,14 @@ impl<'a> Compare<u32> for SoughtKey<'a> {
 // Where the row of a key stands in the order of the keys, or where it would go.
 pub(crate) fn position_by_key(
     slots: &[(Row, u32)],
-    order: &Pages<u32>,
+    order: &Chunks<u32>,
     kind: Kind,
     id: &str,
 ) -> Result<At, At>
-    requires slots { AreSlots (length slots.now) (items order.now.pages) }
-    requires order { AreRows (standing slots.now (items order.now.pages)) }
-    ensures position { IsPositionOf stored_key (key_text (record { kind = kind; id = id.now })) (standing slots.now (items order.now.pages)) (place order.now.pages result) }
-    ensures at { MatchResult result (IsItem order.now.pages) (IsGap order.now.pages) }
+    requires slots { AreSlots (length slots.now) (items order.now.chunks) }
+    requires order { AreRows (standing slots.now (items order.now.chunks)) }
+    ensures position { IsPositionOf stored_key (key_text (record { kind = kind; id = id.now })) (standing slots.now (items order.now.chunks)) (index_found order.now.chunks result) }
+    ensures at { MatchResult result (IsItem order.now.chunks) (IsGap order.now.chunks) }
 {
     order.position(&SoughtKey { slots, kind, id })
 }
@@ -74,25 +74,25 @@ impl<'a> Compare<u32> for SoughtRow<'a> {
 // Where a row that is filed as this one and has its key stands in an order, or where it would go.
 pub(crate) fn position_filed(
     slots: &[(Row, u32)],
-    order: &Pages<u32>,
+    order: &Chunks<u32>,
     by: Filing,
     row: &Row,
 ) -> Result<At, At>
-    requires slots { AreSlots (length slots.now) (items order.now.pages) }
-    requires order { InOrder (filed_key by) (standing slots.now (items order.now.pages)) }
-    ensures position { IsPositionOf (filed_key by) (filed_text by row.now) (standing slots.now (items order.now.pages)) (place order.now.pages result) }
-    ensures at { MatchResult result (IsItem order.now.pages) (IsGap order.now.pages) }
+    requires slots { AreSlots (length slots.now) (items order.now.chunks) }
+    requires order { InOrder (filed_key by) (standing slots.now (items order.now.chunks)) }
+    ensures position { IsPositionOf (filed_key by) (filed_text by row.now) (standing slots.now (items order.now.chunks)) (index_found order.now.chunks result) }
+    ensures at { MatchResult result (IsItem order.now.chunks) (IsGap order.now.chunks) }
 {
     order.position(&SoughtRow { slots, by, row })
 }
 
 // Where the row would go in an order.
-pub(crate) fn gap_filed(slots: &[(Row, u32)], order: &Pages<u32>, by: Filing, row: &Row) -> At
-    requires slots { AreSlots (length slots.now) (items order.now.pages) }
-    requires order { InOrder (filed_key by) (standing slots.now (items order.now.pages)) }
-    requires absent { find_by (filed_key by) (filed_text by row.now) (standing slots.now (items order.now.pages)) ≡ None }
-    ensures position { IsPositionOf (filed_key by) (filed_text by row.now) (standing slots.now (items order.now.pages)) (Err (index_of order.now.pages result)) }
-    ensures gap { IsGap order.now.pages result }
+pub(crate) fn gap_filed(slots: &[(Row, u32)], order: &Chunks<u32>, by: Filing, row: &Row) -> At
+    requires slots { AreSlots (length slots.now) (items order.now.chunks) }
+    requires order { InOrder (filed_key by) (standing slots.now (items order.now.chunks)) }
+    requires absent { find_by (filed_key by) (filed_text by row.now) (standing slots.now (items order.now.chunks)) ≡ None }
+    ensures position { IsPositionOf (filed_key by) (filed_text by row.now) (standing slots.now (items order.now.chunks)) (Err (index_of order.now.chunks result)) }
+    ensures gap { IsGap order.now.chunks result }
 {
     match position_filed(slots, order, by, row) {
         Ok(_) => unreachable!(),
@@ -103,16 +103,16 @@ pub(crate) fn gap_filed(slots: &[(Row, u32)], order: &Pages<u32>, by: Filing, ro
 // Where the slot stands in an order.
 pub(crate) fn position_by_slot(
     slots: &[(Row, u32)],
-    order: &Pages<u32>,
+    order: &Chunks<u32>,
     by: Filing,
     slot: u32,
 ) -> At
-    requires slots { AreSlots (length slots.now) (items order.now.pages) }
-    requires order { InOrder (filed_key by) (standing slots.now (items order.now.pages)) }
-    requires held { list_any (nat_eq slot) (items order.now.pages) ≡ true }
-    ensures item { IsItem order.now.pages result }
-    ensures in_range { index_of order.now.pages result < length (items order.now.pages) }
-    ensures found { slice_index_or (items order.now.pages) (index_of order.now.pages result) 0 ≡ slot }
+    requires slots { AreSlots (length slots.now) (items order.now.chunks) }
+    requires order { InOrder (filed_key by) (standing slots.now (items order.now.chunks)) }
+    requires held { list_any (nat_eq slot) (items order.now.chunks) ≡ true }
+    ensures item { IsItem order.now.chunks result }
+    ensures in_range { index_of order.now.chunks result < length (items order.now.chunks) }
+    ensures found { slice_index_or (items order.now.chunks) (index_of order.now.chunks result) 0 ≡ slot }
 {
     match position_filed(slots, order, by, &slots[slot as usize].0) {
         Ok(at) => at,
@@ -144,13 +144,13 @@ impl<'a> Compare<u32> for SoughtText<'a> {
 // The slots of the rows that are filed under a text, which stand together in the order.
 pub(crate) fn slots_under<'o>(
     slots: &[(Row, u32)],
-    order: &'o Pages<u32>,
+    order: &'o Chunks<u32>,
     by: Filing,
     text: &str,
 ) -> Walk<'o, u32>
-    requires slots { AreSlots (length slots.now) (items order.now.pages) }
-    requires order { InOrder (filed_key by) (standing slots.now (items order.now.pages)) }
-    ensures { result ≡ filter (is_under by text.now slots.now) (items order.now.pages) }
+    requires slots { AreSlots (length slots.now) (items order.now.chunks) }
+    requires order { InOrder (filed_key by) (standing slots.now (items order.now.chunks)) }
+    ensures { result ≡ filter (is_under by text.now slots.now) (items order.now.chunks) }
 {
     order.ties(&SoughtText { slots, by, text })
 }
@@ -163,11 +163,11 @@ fn relabelled(slot: u32, from: u32, to: u32) -> u32
 }
 
 // Gives a slot another number in an order, at the position where it was looked for. Each slot stands where it stood.
-fn rename(order: &mut Pages<u32>, found: Result<At, At>, from: u32, to: u32)
-    requires { MatchResult found (IsItem order.old.pages) (IsGap order.old.pages) }
-    ensures slots { items order.new.pages ≡ renamed (place order.old.pages found) from to (items order.old.pages) }
-    ensures index { (at : At) → index_of order.new.pages at ≡ index_of order.old.pages at }
-    ensures stays { (at : At) → IsItem order.old.pages at → IsItem order.new.pages at }
+fn rename(order: &mut Chunks<u32>, found: Result<At, At>, from: u32, to: u32)
+    requires { MatchResult found (IsItem order.old.chunks) (IsGap order.old.chunks) }
+    ensures slots { items order.new.chunks ≡ renamed (index_found order.old.chunks found) from to (items order.old.chunks) }
+    ensures index { (at : At) → index_of order.new.chunks at ≡ index_of order.old.chunks at }
+    ensures stays { (at : At) → IsItem order.old.chunks at → IsItem order.new.chunks at }
     ensures spare { order.new.spare ≡ order.old.spare }
 {
     match found {
@@ -180,10 +180,10 @@ fn rename(order: &mut Pages<u32>, found: Result<At, At>, from: u32, to: u32)
 }
 
 // Takes the slot at this position out of the order, and gives another slot its number, at the position where that was looked for.
-pub(crate) fn strike(order: &mut Pages<u32>, at: At, found: Result<At, At>, from: u32, to: u32)
-    requires item { IsItem order.old.pages at }
-    requires found { MatchResult found (IsItem order.old.pages) (IsGap order.old.pages) }
-    ensures slots { items order.new.pages ≡ remove (renamed (place order.old.pages found) from to (items order.old.pages)) (index_of order.old.pages at) }
+pub(crate) fn strike(order: &mut Chunks<u32>, at: At, found: Result<At, At>, from: u32, to: u32)
+    requires item { IsItem order.old.chunks at }
+    requires found { MatchResult found (IsItem order.old.chunks) (IsGap order.old.chunks) }
+    ensures slots { items order.new.chunks ≡ remove (renamed (index_found order.old.chunks found) from to (items order.old.chunks)) (index_of order.old.chunks at) }
     ensures spare { order.old.spare ≤ order.new.spare }
 {
     rename(order, found, from, to);

@@ -4,7 +4,7 @@ ghost use Rattle.std.specs.Ordering.{nat_cmp};
 ghost use Rattle.rv_rows.specs.Keys.{key_text, row_key, row_text};
 ghost use Rattle.rv_rows.specs.Sharing.{is_any_extent, belongs, lets_edit, list_of, shares, user_of};
 ghost use Rattle.rv_rows.specs.Filed.{filed_text, sort_of, then_by, under};
-ghost use Rattle.rv_rows.specs.Effects.{sort_after, sort_in, with_fields, with_role};
+ghost use Rattle.rv_rows.specs.Effects.{sort_after, with_fields, with_role};
 ghost use Rattle.rv_rows.specs.declared.filing.Filing.TheVariants as filings;
 ghost use Rattle.rv_rows.specs.declared.filing.Filing.TheVariants.{Sort};
 ghost use Rattle.rv_rows.specs.declared.row.Row.TheVariants.{Share, Todo};
@@ -278,18 +278,6 @@ impl Row {
             Row::List(_) => 0,
             Row::Share(_) => 0,
             Row::Todo(row) => row.sort.get(),
-        }
-    }
-
-    /// The sort of a todo of the list, and 0 of any other row.
-    pub fn sort_in(&self, list: &Id) -> u64
-        ensures { result ≡ sort_in list.now self.now }
-    {
-        match self {
-            Row::Extent(_) => 0,
-            Row::List(_) => 0,
-            Row::Share(_) => 0,
-            Row::Todo(row) => { if row.list == *list { row.sort.get() } else { 0 } }
         }
     }
 

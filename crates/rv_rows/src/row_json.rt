@@ -59,6 +59,8 @@ fn todo_value(alloc: Global, row: &TodoRow) -> Result<Value, AllocError>
 /// The row as a JSON value: an extent is `{"lists":[I,..],"user":U}`, a list is `{"id":I,"name":T,"ownerID":U}`, a share that
 /// lets edit is `{"id":I,"listID":I,"userID":U}`, one that lets see alone `{"id":I,"listID":I,"role":"view","userID":U}`, and a
 /// todo is `{"complete":B,"id":I,"listID":I,"sort":N,"text":T}`.
+///
+/// Nothing in the program calls it, which writes rows by `write_row`: it is for who wants the value.
 pub fn row_value(alloc: Global, row: &Row) -> Result<Value, Memory>
     ensures { IfOk result (λ v. view v ≡ row_data row.now) }
 {

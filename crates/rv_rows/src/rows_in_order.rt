@@ -3,7 +3,7 @@ ghost use Rattle.std.specs.Iterator.{YieldsFirstBy, item_count};
 ghost use Rattle.rv_rows.specs.Slots.{standing, AreSlots};
 
 use crate::row::Row;
-use rv_pages::Walk;
+use rv_chunks::Walk;
 use std::marker::Model;
 
 /// The rows of [`Tables`](crate::Tables) that are still to come, in the order of their keys.

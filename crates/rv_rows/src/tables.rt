@@ -139,6 +139,13 @@ impl Tables {
         self.rows.iter()
     }
 
+    /// The rows stand in the order of their keys, no two with one key: the type has it so. It does nothing.
+    pub fn fits(&self)
+        ensures { AreRows self.now.rows }
+    {
+        let _rows = self.rows.iter();
+    }
+
     /// The rows of a list: the list itself, its shares and its todos, with their versions, in the order of their keys. Takes
     /// no memory.
     pub fn of_list(&self, list: &Id) -> RowsInOrder<'_>

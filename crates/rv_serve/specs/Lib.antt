@@ -1,13 +1,12 @@
 pub mod Hearing
 pub mod HearingLaws
-pub mod MemoryGates
 pub mod Replies
 pub mod Texts
 pub mod Talk
 pub mod Causes
 pub mod Steps
 pub mod Listening
-pub mod Laws
+pub mod Properties
 pub mod TalkLaws
 pub mod RunLaws
 pub mod Poking

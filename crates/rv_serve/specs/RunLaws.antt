@@ -9,7 +9,7 @@ use Rattle.rv_answering.specs.declared.answer.Answer.{Answer}
 use Rattle.rv_answering.specs.Requests.{Parsed}
 use Rattle.rv_serve.specs.Replies.{asked_of, AnswersAsked}
 use Rattle.rv_serve.specs.Talk.{Exchange, AnswersEach, AnswersLast, last_of}
-use Rattle.rv_serve.specs.Laws.{turn_of, turns_of, RunsTurns, TalksAreRuns, ConnsAreRuns}
+use Rattle.rv_serve.specs.Properties.{turn_of, turns_of, RunsTurns, TalksAreRuns, ConnsAreRuns}
 use Rattle.rv_turns.specs.Asks.{Ask}
 use Rattle.rv_turns.specs.declared.outcome.Outcome.{Outcome}
 use Rattle.rv_http.specs.declared.rejection.Rejection.{Rejection}

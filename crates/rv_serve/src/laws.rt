@@ -1,5 +1,5 @@
 //! What follows from the clauses of serving: each law is the contract of a function that does nothing.
-ghost use Rattle.rv_serve.specs.Laws.{ConnsAreRuns, TalksAreRuns};
+ghost use Rattle.rv_serve.specs.Properties.{ConnsAreRuns, TalksAreRuns};
 
 use rv_net::Listen;
 use rv_turns::Turns;

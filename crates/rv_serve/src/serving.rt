@@ -175,6 +175,8 @@ pub(crate) fn serve_with<T: Turns + CountsSettled, G: Gate, S: Source, O: Sink>(
 
 /// Answers the requests of a connection, each by its turns, until one is answered that closes, none can be read, or the
 /// connection ends. Each request that was read passes the gate before its turns.
+///
+/// Nothing in the program calls it, whose workers keep the tools of one connection for the next: it is for who serves one alone.
 pub fn serve_connection<T: Turns + CountsSettled, G: Gate, S: Source, O: Sink>(
     alloc: Global,
     turns: &mut T,

@@ -6,7 +6,7 @@ use Rattle.std.specs.Str.{bytes_eq}
 use Rattle.std.proofs.lemmas.Slice.Eq.{bytes_eq-Decides}
 use Rattle.std.proofs.lemmas.Option.{none-some, same_Some}
 use Rattle.rv_base.specs.Sorted.{Distinct}
-use Rattle.rv_base.specs.Arranged.{find-map, distinct-in_order}
+use Rattle.rv_base.specs.ArrangedLaws.{find-map, distinct-in_order}
 use Rattle.rv_rows.specs.declared.key.Kind.TheVariants as kinds
 use Rattle.rv_rows.specs.declared.row.Row.{Row}
 use Rattle.rv_rows.specs.declared.row.Row.TheVariants as variants
@@ -16,7 +16,7 @@ use Rattle.rv_rows.specs.HeldLaws.{distinct-rows}
 use Rattle.rv_rows.specs.Sharing.{is_extent, names, is_synced}
 use Rattle.rv_sharing.specs.Extents.{row_lists, extent_of, is_named}
 use Rattle.rv_sharing.specs.Gathered.{extents}
-use Rattle.rv_sharing.specs.SameTexts.{same_either_way}
+use Rattle.rv_sharing.specs.SameTextLaws.{same_either_way}
 use Rattle.rv_sharing.proofs.OwnerLaws.{or_none}
 
 -- the text of an extent's key

@@ -9,8 +9,9 @@ use Rattle.std.specs.Option.{option_map_or}
 use Rattle.std.specs.Str.{bytes_eq}
 use Rattle.std.specs.Borrow.{Bor}
 use Rattle.std.proofs.lemmas.Cmp.{nat_list_cmp_total, tied_itself}
-use Rattle.rv_base.specs.Positions.{Below, Above, above_chain, in_order-filter}
-use Rattle.rv_base.specs.Arranged.{sorted-in_order}
+use Rattle.rv_base.specs.PositionLaws.{Above, above_chain, in_order-filter}
+use Rattle.rv_base.specs.Sorted.{Below}
+use Rattle.rv_base.specs.ArrangedLaws.{sorted-in_order}
 use Rattle.rv_rows.specs.declared.key.Kind.{Kind}
 use Rattle.rv_rows.specs.declared.row.Row.{Row}
 use Rattle.rv_rows.specs.Keys.{key_text, row_key, row_text}

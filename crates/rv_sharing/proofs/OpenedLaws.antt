@@ -9,7 +9,7 @@ use Rattle.rv_rows.specs.declared.row.Row.{Row}
 use Rattle.rv_rows.specs.declared.row.Row.TheVariants as variants
 use Rattle.rv_rows.specs.Held.{Stored, rows_in, AreRows}
 use Rattle.rv_rows.specs.Sharing.{is_list, owns, shares, may_see, user_of}
-use Rattle.rv_sharing.specs.SameTexts.{same_either_way, at_same}
+use Rattle.rv_sharing.specs.SameTextLaws.{same_either_way, at_same}
 use Rattle.rv_sharing.proofs.OwnerLaws.{picked}
 use Rattle.rv_sharing.proofs.ExtentLaws.{synced-found}
 use Rattle.rv_sharing.specs.Extents.{extent_of}

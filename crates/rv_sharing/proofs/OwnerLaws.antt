@@ -6,7 +6,7 @@ use Rattle.std.specs.Option.{is_some, option_map, option_map_or, option_and_then
 use Rattle.std.specs.Str.{bytes_eq}
 use Rattle.std.proofs.lemmas.Slice.Eq.{bytes_eq-Decides}
 use Rattle.rv_base.specs.Sorted.{Distinct}
-use Rattle.rv_base.specs.Arranged.{find-map}
+use Rattle.rv_base.specs.ArrangedLaws.{find-map}
 use Rattle.rv_rows.specs.declared.key.Kind.TheVariants as kinds
 use Rattle.rv_rows.specs.declared.row.Row.{Row}
 use Rattle.rv_rows.specs.declared.row.Row.TheVariants as variants
@@ -15,7 +15,7 @@ use Rattle.rv_rows.specs.Held.{Stored, rows_in, find, AreRows}
 use Rattle.rv_rows.specs.HeldLaws.{distinct-rows}
 use Rattle.rv_rows.specs.Sharing.{is_list, owns, shares, may_see, lets_edit, may_edit}
 use Rattle.rv_sharing.specs.Owners.{row_owner, owner_of}
-use Rattle.rv_sharing.specs.SameTexts.{same_either_way}
+use Rattle.rv_sharing.specs.SameTextLaws.{same_either_way}
 
 -- the text of a list's key
 abbrev list_key : List ℕ → List ℕ

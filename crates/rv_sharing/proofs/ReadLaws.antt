@@ -11,7 +11,7 @@ use Rattle.std.proofs.lemmas.Cmp.{nat_list_cmp_total, tied_itself}
 use Rattle.std.proofs.lemmas.List.{length-map, take-append-drop}
 use Rattle.std.proofs.lemmas.List.Sums.{sum_by-append}
 use Rattle.std.proofs.lemmas.Slice.Eq.{bytes_eq-Decides}
-use Rattle.rv_base.specs.Positions.{Above}
+use Rattle.rv_base.specs.PositionLaws.{Above}
 use Rattle.rv_rows.specs.declared.row.Row.{Row}
 use Rattle.rv_rows.specs.declared.row.Row.TheVariants as variants
 use Rattle.rv_rows.specs.Held.{Stored, rows_in}

@@ -8,7 +8,7 @@ use Rattle.std.specs.List.{list_any}
 use Rattle.std.specs.Str.{bytes_eq}
 use Rattle.std.proofs.lemmas.Slice.Eq.{bytes_eq-Decides}
 use Rattle.rv_base.specs.Sorted.{find_by, put_by, IsPositionOf}
-use Rattle.rv_base.specs.Positions.{same_from, in_order-put}
+use Rattle.rv_base.specs.PositionLaws.{same_from, in_order-put}
 use Rattle.rv_sharing.specs.Texts.{AreInOrder, AddsText, AddsTextIf}
 
 abbrev pub text_key : List ℕ → List ℕ

@@ -7,8 +7,8 @@ use Rattle.std.specs.Option.{option_map, option_map_or}
 use Rattle.std.specs.Str.{bytes_eq}
 use Rattle.std.proofs.lemmas.List.{take_all}
 use Rattle.std.proofs.lemmas.List.Folds.{list_any_more}
-use Rattle.rv_base.specs.Positions.{Above, in_order-filter}
-use Rattle.rv_base.specs.Arranged.{find-map}
+use Rattle.rv_base.specs.PositionLaws.{Above, in_order-filter}
+use Rattle.rv_base.specs.ArrangedLaws.{find-map}
 use Rattle.rv_rows.specs.declared.key.Key.{Key}
 use Rattle.rv_rows.specs.declared.row.Row.{Row}
 use Rattle.rv_rows.specs.declared.row.TodoRow.{TodoRow}
@@ -17,7 +17,7 @@ use Rattle.rv_rows.specs.Keys.{key_text, row_text, row_at}
 use Rattle.rv_rows.specs.Held.{Stored, rows_in, find, stored_key, AreRows}
 use Rattle.rv_rows.specs.Sharing.{belongs, shares, may_see, is_synced, is_extent, sees_list, sees_row, lets_edit, list_of, list_passes, user_of}
 use Rattle.rv_sharing.specs.Owners.{owner_of}
-use Rattle.rv_sharing.specs.SameTexts.{same_either_way, at_same}
+use Rattle.rv_sharing.specs.SameTextLaws.{same_either_way, at_same}
 use Rattle.rv_sharing.proofs.OwnerLaws.{picked, may_see-owned, may_see-absent}
 use Rattle.rv_sharing.specs.Extents.{row_extent}
 use Rattle.rv_sharing.specs.Texts.{AreInOrder, AddsText, AddsTextIf}

@@ -5,7 +5,7 @@ use Rattle.std.specs.Borrow.{Bor}
 use Rattle.std.specs.Str.{bytes_eq}
 use Rattle.std.proofs.lemmas.List.{take_more, take_all}
 use Rattle.rv_base.specs.Sorted.{InOrder}
-use Rattle.rv_base.specs.Positions.{Above, differs_back, equals, in_order-filter}
+use Rattle.rv_base.specs.PositionLaws.{Above, differs_back, equals, in_order-filter}
 use Rattle.rv_rows.specs.declared.key.Key.{Key}
 use Rattle.rv_rows.specs.declared.row.Row.{Row}
 use Rattle.rv_rows.specs.declared.row.Row.TheVariants as variants

@@ -1,7 +1,7 @@
 pub mod Owners
 pub mod Extents
 pub mod Texts
-pub mod SameTexts
+pub mod SameTextLaws
 pub mod Opened
 pub mod Sharers
 pub mod Gathered

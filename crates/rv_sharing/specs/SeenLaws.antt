@@ -8,8 +8,8 @@ use Rattle.std.proofs.lemmas.List.Folds.{list_any-append}
 use Rattle.std.proofs.lemmas.Map.Entries.{option_filter}
 use Rattle.std.proofs.lemmas.Option.{none-some, same_Some}
 use Rattle.rv_base.specs.Sorted.{find_by, InOrder, Distinct}
-use Rattle.rv_base.specs.Positions.{equals, in_order-filter, in_order-sorted, found-any}
-use Rattle.rv_base.specs.Arranged.{distinct-in_order, distinct-sorted, in_order-same, find-sorted, sorted-sorted, list_any-sorted, find-filter}
+use Rattle.rv_base.specs.PositionLaws.{equals, in_order-filter, in_order-sorted, found-any}
+use Rattle.rv_base.specs.ArrangedLaws.{distinct-in_order, distinct-sorted, in_order-same, find-sorted, sorted-sorted, list_any-sorted, find-filter}
 use Rattle.rv_rows.specs.declared.key.Key.{Key}
 use Rattle.rv_rows.specs.declared.row.Row.{Row}
 use Rattle.rv_rows.specs.declared.row.Row.TheVariants as variants

@@ -11,8 +11,8 @@ use Rattle.sqlite_trees.specs.Tree.{has_rowid, without_rowid}
 use Rattle.sqlite_rules.specs.Lists.{Has}
 use Rattle.sqlite_rules.specs.Edit.{without_all}
 use Rattle.sqlite_rules.proofs.ListLemmas.{has_filtered, has_kept}
-use Rattle.rv_base.specs.Sorted.{InOrder, put_by, without}
-use Rattle.rv_base.specs.Positions.{Below, same_from}
+use Rattle.rv_base.specs.Sorted.{InOrder, put_by, without, Below}
+use Rattle.rv_base.specs.PositionLaws.{same_from}
 use Rattle.std.proofs.lemmas.Slice.Eq.{bytes_eq-Decides}
 use Rattle.rv_keeper.specs.declared.cell.Cell.{Cell}
 use Rattle.rv_keeper.specs.Cells.{cell_key}

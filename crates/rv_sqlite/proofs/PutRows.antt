@@ -4,7 +4,7 @@ use Rattle.sqlite_value.specs.Order.{Row}
 use Rattle.sqlite_rules.specs.Lists.{Has}
 use Rattle.rv_keeper.specs.declared.cell.Cell.{Cell}
 use Rattle.rv_base.specs.Sorted.{put_by}
-use Rattle.rv_base.specs.Positions.{in_order-put}
+use Rattle.rv_base.specs.PositionLaws.{in_order-put}
 use Rattle.rv_keeper.specs.Cells.{cell_key}
 use Rattle.rv_sqlite.specs.Stands.{Stands, cell_row}
 use Rattle.rv_sqlite.specs.HeldLaws.{row_cell_same}

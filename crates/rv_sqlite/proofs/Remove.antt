@@ -19,7 +19,7 @@ use Rattle.sqlite.specs.State.{State, Runs, mode_of, Executes}
 use Rattle.sqlite.proofs.Callers.{statement_of, runs_as, one_step}
 use Rattle.rv_keeper.specs.declared.cell.Cell.{Cell}
 use Rattle.rv_base.specs.Sorted.{without}
-use Rattle.rv_base.specs.Positions.{in_order-without}
+use Rattle.rv_base.specs.PositionLaws.{in_order-without}
 use Rattle.rv_keeper.specs.Cells.{cell_key}
 use Rattle.rv_sqlite.specs.Table.{IsCellAt, cell_in, remove_text}
 use Rattle.rv_sqlite.specs.Stands.{Stands, cell_row}

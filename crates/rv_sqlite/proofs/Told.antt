@@ -11,7 +11,7 @@ use Rattle.sqlite_trees.specs.Tree.{Trees}
 use Rattle.sqlite.specs.Effect.{Database}
 use Rattle.sqlite.specs.State.{State}
 use Rattle.rv_base.specs.Sorted.{InOrder, put_by, without}
-use Rattle.rv_base.specs.Positions.{differs_back}
+use Rattle.rv_base.specs.PositionLaws.{differs_back}
 use Rattle.rv_keeper.specs.declared.cell.Cell.{Cell}
 use Rattle.rv_keeper.specs.declared.change.Change.{Change}
 use Rattle.rv_keeper.specs.declared.change.Change.TheVariants.{Put, Remove}

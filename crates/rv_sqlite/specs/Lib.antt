@@ -9,6 +9,6 @@ pub mod Steps
 pub mod Telling
 pub mod NextRun
 pub mod Shape
-pub mod Props
+pub mod PropLaws
 pub mod KnownLaws
 pub mod HeldLaws

@@ -280,18 +280,18 @@ fn all_lead_elsewhere(schema: &Schema, tree: u32) -> bool
         .all(|table| lead_elsewhere(schema, tree, table))
 }
 
-// The place of the first table with its rows in this tree.
-fn place_of(tables: &[Table], tree: u32) -> Option<usize>
+// The position of the first table with its rows in this tree.
+fn position_of(tables: &[Table], tree: u32) -> Option<usize>
     ensures { result ≡ position_from (λ table. table.tree == tree) 0 tables.now }
 {
     tables.iter().position(|table| table.tree == tree)
 }
 
-// The first table with its rows in this tree stands at this place.
+// The first table with its rows in this tree stands at this position.
 fn is_first(schema: &Schema, at: usize, tree: u32) -> bool
     ensures { result ≡ is_first schema.now at tree }
 {
-    match place_of(schema.tables.as_slice(), tree) {
+    match position_of(schema.tables.as_slice(), tree) {
         Some(first) => first == at,
         None => false,
     }

@@ -13,7 +13,7 @@ ghost use Rattle.rv_sqlite.specs.Steps.{IsReady};
 ghost use Rattle.rv_sqlite.specs.Table.{IsKnown};
 ghost use Rattle.rv_sqlite.specs.Telling.{CallMakes, CommitsOrNot, Holds, IsGenerationBy, IsToldBy, LeavesAs, LeavesNext, LeavesNoMore, MayLeave, Tells};
 ghost use Rattle.rv_sqlite.specs.HeldLaws.{stand_same};
-ghost use Rattle.rv_sqlite.specs.Props.{KnownWhereTells-prop};
+ghost use Rattle.rv_sqlite.specs.PropLaws.{KnownWhereTells-prop};
 
 use crate::connected::recall;
 use crate::exact::is_known;

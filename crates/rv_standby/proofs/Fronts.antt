@@ -5,7 +5,7 @@ use Rattle.rv_book.specs.declared.entry.Entry.{Entry}
 use Rattle.rv_book.specs.declared.page.Page.{Page}
 use Rattle.rv_book.specs.Book.{Book, Extends, book_from, opening, size, up_to, with_entries, with_entry}
 use Rattle.rv_book.specs.LookLaws.{look_at-within}
-use Rattle.rv_book.specs.BookWords.{size-with_entries, up_to-with_entries}
+use Rattle.rv_book.specs.BookWordLaws.{size-with_entries, up_to-with_entries}
 use Rattle.rv_book.specs.SoundPages.{IsOpening, IsSoundPage}
 use Rattle.rv_views.specs.declared.cookie.Cookie.{Cookie}
 use Rattle.rv_views.specs.declared.cookie.Cookie.TheVariants.{Bare}
@@ -14,15 +14,15 @@ use Rattle.rv_turns.specs.declared.outcome.Outcome.TheVariants.{Pulled}
 use Rattle.rv_turns.specs.declared.pull.PullReply.{PullReply}
 use Rattle.rv_turns.specs.declared.pull.PullRequest.{PullRequest}
 use Rattle.rv_wire.specs.Answers.{pull_json}
-use Rattle.rv_history.specs.Based.{base_look}
+use Rattle.rv_history.specs.BasedLaws.{base_look}
 use Rattle.rv_history.specs.Bases.{base_of}
 use Rattle.rv_history.specs.Machine.{next_order}
-use Rattle.rv_history.specs.Laws.{IsBaseView, ReplyTells}
+use Rattle.rv_history.specs.Properties.{IsBaseView, ReplyTells}
 use Rattle.rv_history.specs.Patches.{ClientView, client_view, apply}
 use Rattle.rv_history.proofs.Shown.{same_tells, new_tells}
-use Rattle.rv_opening.specs.PageCells.{page_cells}
-use Rattle.rv_opening.specs.PageLaws.{kept_one}
-use Rattle.rv_opening.specs.PageReads.{IsKeptPage}
+use Rattle.rv_record.specs.PageCells.{page_cells}
+use Rattle.rv_record.specs.PageLaws.{kept_one}
+use Rattle.rv_record.specs.PageReads.{IsKeptPage}
 use Rattle.rv_record.specs.CellTexts.{entry_cell}
 use Rattle.rv_record.specs.EntryReading.{EntryFits}
 use Rattle.rv_state.specs.Entering.{IsNext}
@@ -31,7 +31,7 @@ use Rattle.rv_store.specs.Opening.{IsSoundBook}
 use Rattle.rv_standby.specs.declared.take_fault.TakeFault.{TakeFault}
 use Rattle.rv_standby.specs.declared.take_fault.TakeFault.TheVariants as faults
 use Rattle.rv_standby.specs.Following.{Answers, Replies, Takes, TakesPage}
-use Rattle.rv_standby.specs.FollowingLaws.{LeadsTo}
+use Rattle.rv_standby.specs.FollowingProperties.{LeadsTo}
 
 -- ---- The page.
 

@@ -7,9 +7,9 @@ use Rattle.rv_base.specs.Outside.{OutputState, Writes}
 use Rattle.rv_base.specs.declared.fault.Fault.{Fault}
 use Rattle.rv_base.specs.declared.fault.Fault.TheVariants.{Failed}
 use Rattle.rv_book.specs.declared.page.Page.{Page}
-use Rattle.rv_opening.specs.Lists.{all-append}
+use Rattle.rv_record.specs.ListLaws.{all-append}
 use Rattle.rv_record.specs.CellTexts.{AreTexts, page_cell}
-use Rattle.rv_opening.specs.PageCells.{client_parts, group_parts, page_cells, parts_of, row_parts}
+use Rattle.rv_record.specs.PageCells.{client_parts, group_parts, page_cells, parts_of, row_parts}
 use Rattle.rv_standby.specs.Shipping.{Ships, cell_line, page_line, page_lines}
 use Rattle.rv_standby.proofs.Shipped.{Done, done, ships_cut}
 

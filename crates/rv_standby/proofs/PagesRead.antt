@@ -7,9 +7,9 @@ use Rattle.rv_keeper.specs.declared.cell.Cell.{Cell}
 use Rattle.rv_keeper.specs.Cells.{cell_key}
 use Rattle.rv_record.specs.declared.fault.CellFault.{CellFault}
 use Rattle.rv_record.specs.declared.fault.CellFault.TheVariants.{BadCell, Memory}
-use Rattle.rv_opening.specs.declared.page_read.PageRead.{PageRead}
-use Rattle.rv_opening.specs.PageLaws.{kept_unbroken, none_kept_one, page_cells-order}
-use Rattle.rv_opening.specs.PageReads.{IsKeptPage, ReadsPage}
+use Rattle.rv_record.specs.declared.page_read.PageRead.{PageRead}
+use Rattle.rv_record.specs.PageLaws.{kept_unbroken, none_kept_one, page_cells-order}
+use Rattle.rv_record.specs.PageReads.{IsKeptPage, ReadsPage}
 use Rattle.rv_standby.specs.declared.take_fault.TakeFault.{TakeFault}
 use Rattle.rv_standby.specs.Following.{OpensOrNot, fault_of}
 

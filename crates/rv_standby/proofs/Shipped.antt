@@ -5,17 +5,17 @@ use Rattle.std.proofs.KnownBytes.{Appends-nil}
 use Rattle.std.proofs.lemmas.Option.{same_Some}
 use Rattle.std.proofs.lemmas.Grind.{flat_map-append}
 use Rattle.std.proofs.lemmas.List.{append-nil, get_or-map, length-map, take-append-drop, take_more, take_all}
-use Rattle.rv_base.specs.Causes.{rose_before}
+use Rattle.rv_base.specs.CauseLaws.{rose_before}
 use Rattle.rv_base.specs.Outside.{OutputState}
-use Rattle.rv_base.specs.Writes.{front_longer, writes_after}
+use Rattle.rv_base.specs.WritesLaws.{front_longer, writes_after}
 use Rattle.rv_base.specs.declared.fault.Fault.{Fault}
 use Rattle.rv_base.specs.declared.fault.Fault.TheVariants.{Memory}
 use Rattle.serde_json.specs.Written.{compact_text}
 use Rattle.rv_book.specs.declared.entry.Entry.{Entry}
 use Rattle.rv_book.specs.Book.{Book, entry_at, size}
-use Rattle.rv_book.specs.BookWords.{entry_at-index}
+use Rattle.rv_book.specs.BookWordLaws.{entry_at-index}
 use Rattle.rv_keeper.specs.declared.cell.Cell.{Cell}
-use Rattle.rv_opening.specs.Lists.{all-append}
+use Rattle.rv_record.specs.ListLaws.{all-append}
 use Rattle.rv_record.specs.CellTexts.{AreTexts, entry_cell}
 use Rattle.rv_store.specs.StoreCells.{entry_cells}
 use Rattle.rv_store.proofs.Entered.{length-entry_cells}

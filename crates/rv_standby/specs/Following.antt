@@ -19,8 +19,8 @@ use Rattle.rv_history.specs.Machine.{IsUnchanged, next_order, patch_for, ids_for
 use Rattle.rv_keeper.specs.declared.cell.Cell.{Cell}
 use Rattle.rv_record.specs.declared.fault.CellFault.{CellFault}
 use Rattle.rv_record.specs.declared.fault.CellFault.TheVariants as cell_faults
-use Rattle.rv_opening.specs.declared.page_read.PageRead.{PageRead}
-use Rattle.rv_opening.specs.PageReads.{IsKeptPage}
+use Rattle.rv_record.specs.declared.page_read.PageRead.{PageRead}
+use Rattle.rv_record.specs.PageReads.{IsKeptPage}
 use Rattle.rv_state.specs.Entering.{IsNext}
 use Rattle.rv_standby.specs.declared.take_fault.TakeFault.{TakeFault}
 use Rattle.rv_standby.specs.declared.take_fault.TakeFault.TheVariants as faults

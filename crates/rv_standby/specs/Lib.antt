@@ -1,3 +1,3 @@
 pub mod Following
-pub mod FollowingLaws
+pub mod FollowingProperties
 pub mod Shipping

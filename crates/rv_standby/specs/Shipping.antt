@@ -13,7 +13,7 @@ use Rattle.rv_book.specs.Book.{Book}
 use Rattle.rv_keeper.specs.declared.cell.Cell.{Cell}
 use Rattle.rv_record.specs.CallTexts.{array_of}
 use Rattle.rv_record.specs.CellTexts.{AreTexts}
-use Rattle.rv_opening.specs.PageCells.{page_cells}
+use Rattle.rv_record.specs.PageCells.{page_cells}
 use Rattle.rv_store.specs.StoreCells.{entry_cells}
 
 -- {"cell":[SHELF,KEY,BODY]}

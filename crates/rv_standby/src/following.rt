@@ -8,7 +8,7 @@ use crate::standby::Standby;
 use crate::take_fault::TakeFault;
 use json::Scratch;
 use rv_keeper::Cell;
-use rv_opening::{PageRead, read_page};
+use rv_record::{PageRead, read_page};
 use rv_state::State;
 use std::alloc::Global;
 use std::cmp::Ordering;

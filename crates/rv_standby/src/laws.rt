@@ -1,6 +1,6 @@
 //! What follows for a standby that is given the cells of a book, as contracts of functions that do nothing: a check of the crate proves
 //! them.
-ghost use Rattle.rv_standby.specs.FollowingLaws.{EntriesAreFollowed, FrontsAreShown, PagesAreFollowed};
+ghost use Rattle.rv_standby.specs.FollowingProperties.{EntriesAreFollowed, FrontsAreShown, PagesAreFollowed};
 
 /// The page of a sound book is never refused by an empty standby.
 pub fn pages_are_followed()

@@ -2,11 +2,11 @@
 ghost use Rattle.std.specs.Prelude.{◌≡◌, ◌≤◌, ◌<◌, ◌+◌, ◌^◌, ℕ, false, decimal, IfOk, IfSome, IfNone, IsTrue, ◌↔◌};
 ghost use Rattle.rv_book.specs.Book.{size};
 ghost use Rattle.rv_history.specs.Groups.{Admits};
-ghost use Rattle.rv_history.specs.Reading.{pull_entries};
+ghost use Rattle.rv_history.specs.Reading.{pull_steps};
 ghost use Rattle.rv_turns.specs.declared.outcome.Outcome.TheVariants.{Pulled};
 ghost use Rattle.rv_turns.specs.declared.pull.PullReply.{PullReply};
 ghost use Rattle.rv_wire.specs.Answers.{pull_json};
-ghost use Rattle.rv_history.specs.Laws.{ReplyTells};
+ghost use Rattle.rv_history.specs.Properties.{ReplyTells};
 ghost use Rattle.rv_standby.specs.Following.{Answers, AnswersOrNot, IsAhead, SpellsAbove};
 
 use crate::standby::Standby;
@@ -63,7 +63,7 @@ impl Standby {
     ) -> Outcome
         ensures answers { Answers self.now.book user.now request.now result }
         ensures tells { (reply : PullReply) → result ≡ Pulled reply → ReplyTells pull_json user.now request.now self.now.book reply }
-        ensures most { steps.new ≤ steps.old + pull_entries user.now request.now self.now.book }
+        ensures most { steps.new ≤ steps.old + pull_steps user.now request.now self.now.book }
     {
         match self.answer(user, request, steps) {
             Ok(outcome) => outcome,
@@ -79,7 +79,7 @@ impl Standby {
         steps: &mut Steps<L>,
     ) -> Result<Outcome, Memory>
         ensures answers { AnswersOrNot self.now.book user.now request.now result }
-        ensures most { steps.new ≤ steps.old + pull_entries user.now request.now self.now.book }
+        ensures most { steps.new ≤ steps.old + pull_steps user.now request.now self.now.book }
     {
         let book = self.state.book();
         match admits(book, user, &request.group) {
@@ -106,7 +106,7 @@ impl Standby {
         requires admits { Admits user.now request.now.group self.now.book }
         requires within { ¬ IsAhead request.now.cookie self.now.book }
         ensures answers { AnswersOrNot self.now.book user.now request.now result }
-        ensures most { steps.new ≤ steps.old + pull_entries user.now request.now self.now.book }
+        ensures most { steps.new ≤ steps.old + pull_steps user.now request.now self.now.book }
     {
         let Some(news) = self.state.news(user, request, steps)? else {
             return Ok(Outcome::Pulled(same_reply(self.alloc, request)?));

@@ -3,7 +3,7 @@ ghost use Rattle.std.specs.Prelude.{◌≡◌, ◌+◌, ◌≤◌, IfOk};
 ghost use Rattle.std.specs.List.{flat_map, AllByRecursion};
 ghost use Rattle.std.specs.Str.{IsUtf8};
 ghost use Rattle.rv_rows.specs.Additions.{AddsValue};
-ghost use Rattle.rv_opening.specs.PageCells.{client_parts, group_parts, page_cells, row_parts};
+ghost use Rattle.rv_record.specs.PageCells.{client_parts, group_parts, page_cells, row_parts};
 ghost use Rattle.rv_record.specs.CellTexts.{AreTexts, entry_cell, page_cell, page_client_cell, page_group_cell, page_row_cell};
 ghost use Rattle.rv_store.specs.StoreCells.{entry_cells};
 ghost use Rattle.rv_standby.specs.Shipping.{BookIsTexts, Ships, ShipsSteadily, book_lines, cell_data, cell_line, page_lines};

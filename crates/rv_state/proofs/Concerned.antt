@@ -4,8 +4,8 @@ use Rattle.std.specs.Prelude.{Result, Ok, Err, IfOk}
 use Rattle.std.specs.List.{list_any}
 use Rattle.std.specs.Str.{bytes_eq}
 use Rattle.std.proofs.lemmas.Slice.Eq.{bytes_eq-Decides}
-use Rattle.rv_base.specs.Positions.{in_order-sorted}
-use Rattle.rv_base.specs.Arranged.{distinct-in_order}
+use Rattle.rv_base.specs.PositionLaws.{in_order-sorted}
+use Rattle.rv_base.specs.ArrangedLaws.{distinct-in_order}
 use Rattle.rv_rows.specs.declared.row.Row.{Row}
 use Rattle.rv_rows.specs.declared.call.Call.{Call}
 use Rattle.rv_rows.specs.Changes.{after}

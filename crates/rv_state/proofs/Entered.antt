@@ -6,19 +6,18 @@ use Rattle.rv_rows.specs.Held.{Stored}
 use Rattle.rv_book.specs.declared.entry.Entry.{Entry}
 use Rattle.rv_book.specs.declared.entry.Entry.TheVariants.{Act, Look, Retire}
 use Rattle.rv_book.specs.Book.{Book, size, with_entry, empty_book}
-use Rattle.rv_book.specs.BookWords.{size-with_entry}
-use Rattle.rv_book.specs.Kept.{kept}
-use Rattle.rv_book.specs.LookLaws.{is_place}
+use Rattle.rv_book.specs.BookWordLaws.{size-with_entry}
+use Rattle.rv_book.specs.Kept.{kept, is_place}
 use Rattle.rv_views.specs.Viewed.{Viewed}
 use Rattle.rv_mutators.specs.Staging.{with_staged}
 use Rattle.rv_history.specs.Lawful.{IsLawful}
-use Rattle.rv_history.specs.LawfulBooks.{lawful_none, lawful_more}
+use Rattle.rv_history.specs.LawfulBookLaws.{lawful_none, lawful_more}
 use Rattle.rv_history.specs.Replay.{IsReplay}
 use Rattle.rv_history.specs.ReplayLaws.{replay_none, replay_act, replay_look, replay_retire}
 use Rattle.rv_news.specs.Records.{Placed, AreRecords}
-use Rattle.rv_news.specs.KeptRecords.{records_none, records_act, records_look_in_place, records_retire}
+use Rattle.rv_news.specs.KeptRecordLaws.{records_none, records_act, records_look_in_place, records_retire}
 use Rattle.rv_record.specs.EntryReading.{EntryFits}
-use Rattle.rv_opening.specs.PageCells.{PartsFit}
+use Rattle.rv_record.specs.PageCells.{PartsFit}
 use Rattle.rv_state.specs.declared.prepared.Prepared.{Prepared}
 use Rattle.rv_state.specs.declared.prepared.Prepared.TheVariants as prepared
 use Rattle.rv_state.specs.declared.prepared.PreparedAct.{PreparedAct}

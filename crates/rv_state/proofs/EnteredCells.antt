@@ -7,8 +7,8 @@ use Rattle.rv_keeper.specs.declared.cell.Cell.{Cell}
 use Rattle.rv_record.specs.declared.fault.CellFault.{CellFault}
 use Rattle.rv_record.specs.declared.fault.CellFault.TheVariants.{BadCell, Memory}
 use Rattle.rv_record.specs.CellTexts.{entry_cell}
-use Rattle.rv_record.specs.PlaceOrder.{ten_digits-injective}
-use Rattle.rv_record.specs.EntryCells.{entry_body_injective}
+use Rattle.rv_record.specs.PlaceOrderLaws.{ten_digits-injective}
+use Rattle.rv_record.specs.EntryCellLaws.{entry_body_injective}
 use Rattle.rv_record.specs.CellReading.{Blames, ReadsCell}
 use Rattle.rv_record.specs.EntryReading.{IsPlace, EntryFits, PlacedFits}
 use Rattle.rv_state.specs.Entering.{IsBrokenEntry, Breaks, ReadsNext}

@@ -7,13 +7,13 @@ use Rattle.rv_book.specs.Book.{Book, book_from, size}
 use Rattle.rv_book.specs.SoundPages.{IsSoundPage}
 use Rattle.rv_history.specs.Closing.{Closes}
 use Rattle.rv_history.specs.Lawful.{IsLawful}
-use Rattle.rv_history.specs.Openings.{closes_lawful, closes_replay, kept_opening, lawful_opening, mark_opening, replay_opening}
+use Rattle.rv_history.specs.OpeningLaws.{closes_lawful, closes_replay, kept_opening, lawful_opening, mark_opening, replay_opening}
 use Rattle.rv_history.specs.Replay.{IsReplay}
 use Rattle.rv_history.specs.Served.{Next}
 use Rattle.rv_history.specs.TurnLaws.{size-with_next}
 use Rattle.rv_news.specs.Records.{AreRecords, Placed}
 use Rattle.rv_record.specs.EntryReading.{EntryFits}
-use Rattle.rv_opening.specs.PageCells.{PartsFit}
+use Rattle.rv_record.specs.PageCells.{PartsFit}
 use Rattle.rv_state.specs.UserMarks.{AreMarks, UserMark}
 use Rattle.rv_state.proofs.Entered.{Stands}
 

@@ -11,7 +11,7 @@ use Rattle.rv_mutators.specs.Staging.{with_staged, staged}
 use Rattle.rv_history.specs.Served.{Next, MayFollow}
 use Rattle.rv_history.specs.Marks.{AreConcerned}
 use Rattle.rv_news.specs.Records.{IsViewAt}
-use Rattle.rv_opening.specs.PageCells.{PartsFit}
+use Rattle.rv_record.specs.PageCells.{PartsFit}
 use Rattle.rv_record.specs.EntryReading.{EntryFits}
 use Rattle.rv_state.specs.declared.prepared.Prepared.{Prepared}
 use Rattle.rv_state.specs.declared.prepared.Prepared.TheVariants.{Act, Look, Retirement, Closing}

@@ -6,7 +6,7 @@ ghost use Rattle.rv_book.specs.Registers.{clients_of, groups_of};
 ghost use Rattle.rv_book.specs.SoundPages.{IsSoundPage};
 ghost use Rattle.rv_history.specs.Closing.{SumsUp};
 ghost use Rattle.rv_history.specs.Replay.{IsReplay};
-ghost use Rattle.rv_opening.specs.PageCells.{PartsFit};
+ghost use Rattle.rv_record.specs.PageCells.{PartsFit};
 ghost use Rattle.rv_record.specs.CellReading.{ClientFits, GroupFits};
 ghost use Rattle.rv_record.specs.RowReading.{RowFits};
 ghost use Rattle.rv_state.specs.declared.prepared.Prepared.TheVariants.{Closing};

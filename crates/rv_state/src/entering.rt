@@ -31,8 +31,8 @@ fn next_entry(
     requires { cell.now.shelf ≡ 1 }
     ensures { ReadsNext book.now.limit book.now.book cell.now result }
 {
-    // The book tells that its limit, and so its next place, is that of a key.
-    let _length = book.len();
+    // The book's limit, and so its next place, is that of a key.
+    book.fits();
     let (place, entry) = entry_of_cell(alloc, cell, scratch)?;
     entry_fits(&entry);
     if may_follow(book, place, &entry) {

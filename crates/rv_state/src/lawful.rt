@@ -57,8 +57,7 @@ fn is_base(book: &Book, user: &User, order: Num, base: Option<u32>) -> bool
 fn is_above(book: &Book, group: &Id, order: Num) -> bool
     ensures { IsTrue result ↔ ((last_order group.now book.now.book < order) × (order < 2 ^ 53)) }
 {
-    let _bound = order.get();
-    book.last_order(group) < order
+    book.last_order(group).get() < order.get()
 }
 
 // Whether an act or a look names the group, and it is not retired.

@@ -44,7 +44,7 @@ impl Model for State {
     ghost use Rattle.rv_news.specs.Records.{AreRecords};
     ghost use Rattle.rv_record.specs.EntryReading.{EntryFits};
     ghost use Rattle.rv_state.specs.Standing.{IsWithin, Standing};
-    ghost use Rattle.rv_opening.specs.PageCells.{PartsFit};
+    ghost use Rattle.rv_record.specs.PageCells.{PartsFit};
     ghost use Rattle.rv_state.specs.UserMarks.{AreMarks};
 
     ghost Value = { Standing };
@@ -81,7 +81,7 @@ fn reserve(book: &mut Book) -> Result<(), Memory>
 
 impl State {
     ghost use Rattle.rv_history.specs.Lawful.{IsLawful, IsLawfulAfter};
-    ghost use Rattle.rv_history.specs.Reading.{pull_entries};
+    ghost use Rattle.rv_history.specs.Reading.{pull_steps};
     ghost use Rattle.rv_history.specs.Replay.{IsReplay};
     ghost use Rattle.rv_history.specs.Bases.{base_of};
     ghost use Rattle.rv_record.specs.EntryReading.{EntryFits};
@@ -90,7 +90,7 @@ impl State {
     ghost use Rattle.rv_history.specs.Served.{Next, with_next};
     ghost use Rattle.rv_history.specs.Marks.{AreConcerned, IsMark};
     ghost use Rattle.rv_news.specs.Records.{AreRecords, IsViewAt};
-    ghost use Rattle.rv_opening.specs.PageCells.{PartsFit};
+    ghost use Rattle.rv_record.specs.PageCells.{PartsFit};
     ghost use Rattle.rv_wire.specs.Answers.{pull_json};
     ghost use Rattle.rv_state.specs.Ready.{IsPrepared, next_of};
     ghost use Rattle.rv_state.specs.Standing.{IsWithin};
@@ -155,7 +155,7 @@ impl State {
     ) -> Result<Option<News>, Memory>
         ensures told { IfOk result (IsTold self.now.book user.now request.now) }
         ensures since { (mark : ℕ) → IsMark user.now self.now.book mark → IsTrue (is_base_since mark user.now request.now self.now.book) → (result ≡ Ok None) × (steps.new ≡ steps.old) }
-        ensures most { steps.new ≤ steps.old + pull_entries user.now request.now self.now.book }
+        ensures most { steps.new ≤ steps.old + pull_steps user.now request.now self.now.book }
     {
         news_for(
             self.alloc,

@@ -1,14 +1,11 @@
 -- Loaded cells on shelves behind those of a page: where the others first differ from a book's they still do; and where they do not, the first of
 -- those behind is too much.
-use Rattle.std.proofs.Common.{◌≡◌, ℕ, ◌+◌, ◌^◌, ◌<◌, ◌≤◌, Bool, true, false, cond, List, [], ◌∷◌, ◌++◌, Option, Some, None, ◌⊎◌, inl, inr, refl, sym, ap, ◌∙◌, subst, arith}
+use Rattle.std.proofs.Common.{◌≡◌, ℕ, ◌+◌, ◌<◌, ◌≤◌, Bool, true, false, cond, List, [], ◌∷◌, ◌++◌, Option, Some, None, ◌⊎◌, inl, inr, refl, sym, ap, ◌∙◌, arith}
 use Rattle.std.specs.List.{AllByRecursion}
 use Rattle.std.specs.Str.{bytes_eq}
-use Rattle.std.specs.declared.cmp.Ordering.TheVariants.{Less}
-use Rattle.std.specs.Ordering.{nat_cmp}
-use Rattle.std.specs.Cmp.Lexicographic.{slice_cmp}
 use Rattle.std.proofs.lemmas.Bool.{cases_lt}
-use Rattle.rv_base.specs.Sorted.{find_by, InOrder}
-use Rattle.rv_base.specs.Positions.{Below, Above, above_chain, differs_back, find_above}
+use Rattle.rv_base.specs.Sorted.{find_by, InOrder, Below}
+use Rattle.rv_base.specs.PositionLaws.{Above, above_chain, differs_back, find_above}
 use Rattle.rv_rows.specs.Held.{Stored}
 use Rattle.rv_book.specs.Book.{Book}
 use Rattle.rv_news.specs.Records.{Placed}
@@ -21,7 +18,7 @@ use Rattle.rv_store.specs.Opening.{IsFirstDifference}
 use Rattle.rv_store.specs.OpeningSteps.{Differs}
 use Rattle.rv_store.specs.ShelfLaws.{all-append, lower_shelf}
 use Rattle.rv_store.specs.StoreCells.{client_cells, derived_cells, group_cells, row_cells, view_cells}
-use Rattle.rv_store.specs.StoreOrder.{clients-on, groups-on, rows-on, views-on}
+use Rattle.rv_store.specs.StoreOrderLaws.{clients-on, groups-on, rows-on, views-on}
 
 pub front_in_order : (xs ys : List Cell) → InOrder cell_key (xs ++ ys) → InOrder cell_key xs
 front_in_order [] ys order = tt

@@ -4,7 +4,7 @@ use Rattle.std.specs.List.{filter}
 use Rattle.std.specs.Option.{option_map, option_or}
 use Rattle.std.proofs.lemmas.Bool.Decides.{Decides-eqb}
 use Rattle.rv_base.specs.Sorted.{find_by, InOrder}
-use Rattle.rv_base.specs.Arranged.{in_order-same}
+use Rattle.rv_base.specs.ArrangedLaws.{in_order-same}
 use Rattle.rv_rows.specs.Held.{AreRows, Stored, stored_key}
 use Rattle.rv_book.specs.declared.page.Page.{Page}
 use Rattle.rv_book.specs.Book.{Book, book_from, bound, group_of, last, last_order, page_client, page_group, retired, size}
@@ -15,23 +15,23 @@ use Rattle.rv_book.specs.SoundPages.{IsOpening}
 use Rattle.rv_history.specs.Closing.{SumsUp}
 use Rattle.rv_history.specs.ClosingLaws.{closed_bound, closed_group_of, closed_last, closed_last_order, closed_replay, closed_retired}
 use Rattle.rv_history.specs.Lawful.{IsLawful}
-use Rattle.rv_history.specs.Openings.{kept_opening, replay_unique}
+use Rattle.rv_history.specs.OpeningLaws.{kept_opening, replay_unique}
 use Rattle.rv_history.specs.Replay.{IsReplay}
 use Rattle.rv_history.specs.ReplayLaws.{stored_in_order}
-use Rattle.rv_history.specs.SoundClosing.{retires_bound}
+use Rattle.rv_history.specs.SoundClosingLaws.{retires_bound}
 use Rattle.rv_news.specs.Records.{AreRecords, Placed}
 use Rattle.rv_keeper.specs.declared.cell.Cell.{Cell}
 use Rattle.rv_keeper.specs.declared.change.Change.{Change}
 use Rattle.rv_keeper.specs.declared.change.Change.TheVariants.{Put}
 use Rattle.rv_keeper.specs.Cells.{AreChanges, changed}
-use Rattle.rv_opening.specs.PageCells.{PageClient, PageGroup, client_parts, group_parts, page_cells, row_parts}
-use Rattle.rv_opening.specs.Parts.{written}
+use Rattle.rv_record.specs.PageCells.{PageClient, PageGroup, client_parts, group_parts, page_cells, row_parts}
+use Rattle.rv_record.specs.PartLaws.{written}
 use Rattle.rv_record.specs.CellTexts.{client_cell, group_cell, page_cell, page_row_cell, page_client_cell, page_group_cell, view_cell}
 use Rattle.rv_store.specs.ClosingChanges.{closing_changes, gone_entries, gone_records, gone_rows, put_clients, put_groups, put_rows}
 use Rattle.rv_store.specs.ShelfLaws.{OnShelf}
 use Rattle.rv_store.specs.StoreCells.{AreCellsOf, cells_of, client_cells, entry_cells, group_cells, row_cells, view_cells}
-use Rattle.rv_store.specs.StoreOrder.{arranged, clients-on, groups-on, in_order-records, places_fit, record_key, rows-on}
-use Rattle.rv_store.specs.StoreUnique.{records_unique}
+use Rattle.rv_store.specs.StoreOrderLaws.{arranged, clients-on, groups-on, in_order-records, places_fit, record_key, rows-on}
+use Rattle.rv_store.specs.StoreUniqueLaws.{records_unique}
 use Rattle.rv_store.proofs.GoneEntries.{entries_are, entries_part}
 use Rattle.rv_store.proofs.NextCells.{regroup}
 use Rattle.rv_store.proofs.Replacements.{added_is, left_out, put_part, removed_is, removed_part, replaced_is}

@@ -5,7 +5,7 @@ use Rattle.rv_book.specs.declared.page.Page.{Page}
 use Rattle.rv_book.specs.Book.{Book, book_from, size}
 use Rattle.rv_history.specs.Closing.{Closes, SumsUp}
 use Rattle.rv_history.specs.Lawful.{IsLawful}
-use Rattle.rv_history.specs.Openings.{replay_unique}
+use Rattle.rv_history.specs.OpeningLaws.{replay_unique}
 use Rattle.rv_history.specs.Replay.{IsReplay}
 use Rattle.rv_news.specs.Records.{AreRecords, Placed}
 use Rattle.rv_keeper.specs.declared.cell.Cell.{Cell}

@@ -10,7 +10,7 @@ use Rattle.rv_keeper.specs.declared.cell.Cell.{Cell}
 use Rattle.rv_keeper.specs.Cells.{cell_key}
 use Rattle.rv_record.specs.declared.fault.CellFault.{CellFault}
 use Rattle.rv_store.specs.StoreCells.{AreDerived, derived_cells, row_cells, client_cells, group_cells, view_cells}
-use Rattle.rv_store.specs.StoreOrder.{derived_of-are_cells}
+use Rattle.rv_store.specs.StoreOrderLaws.{derived_of-are_cells}
 use Rattle.rv_store.specs.OpeningSteps.{ComparesOthers, Departs, Differs}
 use Rattle.rv_store.proofs.FirstDifference.{in_order_behind, differs_behind}
 use Rattle.rv_store.proofs.Behind.{Low, derived-low, differs_past, differs_with, front_in_order}

@@ -7,13 +7,13 @@ use Rattle.std.specs.Cmp.Lexicographic.{slice_cmp}
 use Rattle.std.specs.List.{AllByRecursion}
 use Rattle.std.proofs.lemmas.Bool.Decides.{nat_tests}
 use Rattle.std.proofs.lemmas.List.{take-append-drop, take_more, drop_more, drop_all, length-take-le}
-use Rattle.rv_base.specs.Sorted.{InOrder}
-use Rattle.rv_base.specs.Positions.{Below, Above}
+use Rattle.rv_base.specs.Sorted.{InOrder, Below}
+use Rattle.rv_base.specs.PositionLaws.{Above}
 use Rattle.rv_book.specs.declared.entry.Entry.{Entry}
 use Rattle.rv_book.specs.declared.page.Page.{Page}
 use Rattle.rv_book.specs.Book.{Book, book_from, size, with_entry}
-use Rattle.rv_book.specs.BookWords.{size-with_entry}
-use Rattle.rv_history.specs.LawfulBooks.{lawful_more}
+use Rattle.rv_book.specs.BookWordLaws.{size-with_entry}
+use Rattle.rv_history.specs.LawfulBookLaws.{lawful_more}
 use Rattle.rv_keeper.specs.declared.cell.Cell.{Cell}
 use Rattle.rv_keeper.specs.Cells.{cell_key}
 use Rattle.rv_record.specs.declared.fault.CellFault.{CellFault}
@@ -23,7 +23,7 @@ use Rattle.rv_record.specs.CellTexts.{entry_cell}
 use Rattle.rv_record.specs.EntryReading.{EntryFits}
 use Rattle.rv_store.specs.StoreCells.{entry_cells}
 use Rattle.rv_store.specs.ShelfLaws.{all-append}
-use Rattle.rv_store.specs.StoreBooks.{entry_cells-with_entry}
+use Rattle.rv_store.specs.StoreBookLaws.{entry_cells-with_entry}
 use Rattle.rv_store.specs.Opening.{IsSoundBook, BreaksAt, HasEntries}
 use Rattle.rv_state.specs.Standing.{Standing}
 use Rattle.rv_state.specs.Entering.{IsBrokenEntry, IsNext, Breaks}

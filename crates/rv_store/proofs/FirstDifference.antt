@@ -4,8 +4,8 @@ use Rattle.std.proofs.Common.{◌≡◌, ℕ, true, false, cond, List, [], ◌�
 use Rattle.std.specs.Str.{bytes_eq}
 use Rattle.std.proofs.lemmas.Option.{none-some, same_Some}
 use Rattle.std.proofs.lemmas.Slice.Eq.{bytes_eq-Decides}
-use Rattle.rv_base.specs.Sorted.{find_by, InOrder}
-use Rattle.rv_base.specs.Positions.{Below, Above, above_chain, find_above, equals}
+use Rattle.rv_base.specs.Sorted.{find_by, InOrder, Below}
+use Rattle.rv_base.specs.PositionLaws.{Above, above_chain, find_above, equals}
 use Rattle.rv_keeper.specs.declared.cell.Cell.{Cell}
 use Rattle.rv_keeper.specs.Cells.{cell_key}
 use Rattle.rv_record.specs.declared.fault.CellFault.{CellFault}

@@ -3,19 +3,19 @@ use Rattle.std.proofs.Common.{◌≡◌, ℕ, zero, suc, ◌+◌, ◌-◌, ◌^�
 use Rattle.std.specs.List.{range_with_len}
 use Rattle.std.proofs.lemmas.List.FromFn.{map-range_with_len_more}
 use Rattle.rv_base.specs.Sorted.{without, InOrder}
-use Rattle.rv_base.specs.Arranged.{distinct-in_order}
-use Rattle.rv_base.specs.Positions.{Above, equals, without_above}
+use Rattle.rv_base.specs.ArrangedLaws.{distinct-in_order}
+use Rattle.rv_base.specs.PositionLaws.{Above, equals, without_above}
 use Rattle.rv_book.specs.declared.entry.Entry.{Entry}
 use Rattle.rv_keeper.specs.declared.cell.Cell.{Cell}
 use Rattle.rv_keeper.specs.declared.change.Change.{Change}
 use Rattle.rv_keeper.specs.declared.change.Change.TheVariants.{Remove}
 use Rattle.rv_keeper.specs.Cells.{cell_key, changed}
 use Rattle.rv_record.specs.CellTexts.{ten_digits, entry_cell}
-use Rattle.rv_record.specs.PlaceOrder.{ten_digits-order}
+use Rattle.rv_record.specs.PlaceOrderLaws.{ten_digits-order}
 use Rattle.rv_store.specs.ClosingChanges.{gone_entries}
 use Rattle.rv_store.specs.ShelfLaws.{AreOf, distinct-changes, same_shelf}
 use Rattle.rv_store.specs.StoreCells.{entry_cells}
-use Rattle.rv_store.specs.StoreOrder.{entries-on}
+use Rattle.rv_store.specs.StoreOrderLaws.{entries-on}
 use Rattle.rv_store.proofs.ShelfParts.{IsPart, Part}
 
 -- places stand in the order of their digits

@@ -4,9 +4,9 @@ use Rattle.std.specs.List.{AllByRecursion, filter}
 use Rattle.std.specs.Option.{option_map, option_map_or}
 use Rattle.std.specs.Str.{bytes_eq}
 use Rattle.std.proofs.lemmas.Slice.Eq.{bytes_eq-Decides}
-use Rattle.rv_base.specs.Sorted.{find_by, put_by, InOrder, Distinct}
-use Rattle.rv_base.specs.Positions.{Below, differs, find_put, in_order-filter, in_order-put}
-use Rattle.rv_base.specs.Arranged.{distinct-in_order, in_order-same}
+use Rattle.rv_base.specs.Sorted.{find_by, put_by, InOrder, Distinct, Below}
+use Rattle.rv_base.specs.PositionLaws.{differs, find_put, in_order-filter, in_order-put}
+use Rattle.rv_base.specs.ArrangedLaws.{distinct-in_order, in_order-same}
 use Rattle.rv_rows.specs.declared.call.Call.{Call}
 use Rattle.rv_rows.specs.Held.{Stored, rows_in}
 use Rattle.rv_rows.specs.HeldLaws.{distinct-rows}
@@ -17,28 +17,27 @@ use Rattle.rv_views.specs.Viewed.{Viewed}
 use Rattle.rv_book.specs.declared.entry.Entry.{Entry}
 use Rattle.rv_book.specs.declared.entry.Entry.TheVariants.{Act, Look, Retire}
 use Rattle.rv_book.specs.Book.{Book, size, with_entry, bound, group_of, last_order, retired}
-use Rattle.rv_book.specs.Kept.{is_look_at, falls_out, kept}
-use Rattle.rv_book.specs.LookLaws.{is_place}
+use Rattle.rv_book.specs.Kept.{is_look_at, falls_out, kept, is_place}
 use Rattle.rv_book.specs.Registers.{clients_of, group_named, groups_of}
 use Rattle.rv_book.specs.RegisterLaws.{none_but, clients_after_home_act, clients_after_look, clients_after_retire, found_group, groups-in_order, groups_after_act, groups_after_look, groups_after_retire, NoneBut}
 use Rattle.rv_history.specs.Lawful.{IsLawfulAfter}
 use Rattle.rv_history.specs.Replay.{IsReplay}
 use Rattle.rv_history.specs.ReplayLaws.{replay_act, replay_look, replay_retire, stored_in_order}
 use Rattle.rv_news.specs.Records.{Placed, AreRecords, IsViewAt}
-use Rattle.rv_news.specs.KeptRecords.{records_act, records_look_in_place, records_retire}
+use Rattle.rv_news.specs.KeptRecordLaws.{records_act, records_look_in_place, records_retire}
 use Rattle.rv_keeper.specs.declared.cell.Cell.{Cell}
 use Rattle.rv_keeper.specs.declared.change.Change.{Change}
 use Rattle.rv_keeper.specs.declared.change.Change.TheVariants.{Put, Remove}
 use Rattle.rv_keeper.specs.Cells.{AreChanges, cell_key, change_key, change_shelf, changed}
 use Rattle.rv_record.specs.CellTexts.{ten_digits, entry_cell, client_cell, group_cell, view_cell}
-use Rattle.rv_record.specs.PlaceOrder.{ten_digits-order}
-use Rattle.rv_opening.specs.PageCells.{page_cells}
-use Rattle.rv_opening.specs.PageLaws.{page_cells-on}
+use Rattle.rv_record.specs.PlaceOrderLaws.{ten_digits-order}
+use Rattle.rv_record.specs.PageCells.{page_cells}
+use Rattle.rv_record.specs.PageLaws.{page_cells-on}
 use Rattle.rv_store.specs.StoreCells.{entry_cells, row_cells, client_cells, group_cells, view_cells, cells_of, AreCellsOf}
-use Rattle.rv_store.specs.StoreOrder.{entries-on, rows-on, clients-on, groups-on, views-on, views-behind, record_key, in_order-records, arranged, places_fit}
-use Rattle.rv_history.specs.Openings.{replay_unique}
-use Rattle.rv_store.specs.StoreUnique.{records_unique}
-use Rattle.rv_store.specs.StoreBooks.{entry_cells-with_entry}
+use Rattle.rv_store.specs.StoreOrderLaws.{entries-on, rows-on, clients-on, groups-on, views-on, views-behind, record_key, in_order-records, arranged, places_fit}
+use Rattle.rv_history.specs.OpeningLaws.{replay_unique}
+use Rattle.rv_store.specs.StoreUniqueLaws.{records_unique}
+use Rattle.rv_store.specs.StoreBookLaws.{entry_cells-with_entry}
 use Rattle.rv_store.specs.ShelfLaws.{AreOf, AreAfter, Behind, all-append, behind-on, same_shelf, changed-parts, distinct-parts, put-cells, distinct-changes}
 use Rattle.rv_store.specs.EntryChanges.{row_changes, act_changes, first_group, gone_view, look_changes, gone_views, retire_changes}
 use Rattle.rv_store.proofs.RowChanges.{rows-leave, rows-of, rows-distinct}

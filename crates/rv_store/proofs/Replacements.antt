@@ -7,8 +7,8 @@ use Rattle.std.proofs.lemmas.List.Sums.{fold-append}
 use Rattle.std.proofs.lemmas.Map.Entries.{option_filter}
 use Rattle.std.proofs.lemmas.Slice.Eq.{bytes_eq-Decides}
 use Rattle.rv_base.specs.Sorted.{find_by, put_by, without, Distinct, InOrder}
-use Rattle.rv_base.specs.Arranged.{distinct-filter, distinct-in_order, find-filter, in_order-same}
-use Rattle.rv_base.specs.Positions.{equals, find_put, in_order-put, in_order-without, without_above}
+use Rattle.rv_base.specs.ArrangedLaws.{distinct-filter, distinct-in_order, find-filter, in_order-same}
+use Rattle.rv_base.specs.PositionLaws.{equals, find_put, in_order-put, in_order-without, without_above}
 use Rattle.rv_history.specs.ReplayLaws.{all_found}
 use Rattle.rv_keeper.specs.declared.cell.Cell.{Cell}
 use Rattle.rv_keeper.specs.declared.change.Change.{Change}

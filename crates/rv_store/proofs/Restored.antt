@@ -1,28 +1,27 @@
 -- What opens from cells that are parted by their shelves: those before a page's, the page's, and those behind.
-use Rattle.std.proofs.Common.{◌≡◌, ℕ, zero, suc, ◌+◌, ◌-◌, ◌^◌, ◌<◌, ◌≤◌, ◌&&◌, Bool, true, false, not, nat_lt, List, [], ◌∷◌, ◌++◌, length, get_or, take, drop, Option, Some, None, IfSome, Result, Ok, Err, IsErrAnd, refl, sym, ap, ◌∙◌, subst, arith, inl, inr, length-append, append-nil, append_assoc}
+use Rattle.std.proofs.Common.{◌≡◌, ℕ, zero, suc, ◌+◌, ◌-◌, ◌<◌, ◌≤◌, ◌&&◌, Bool, true, false, not, nat_lt, List, [], ◌∷◌, ◌++◌, length, get_or, take, drop, Option, Some, None, IfSome, Result, Ok, Err, IsErrAnd, refl, sym, ap, ◌∙◌, subst, arith, inl, inr, length-append, append-nil, append_assoc}
 use Rattle.std.specs.List.{AllByRecursion}
-use Rattle.std.specs.List.Sorted.{IsPartitionedBy, IsPartitionPoint}
-use Rattle.std.proofs.lemmas.Bool.{lt-ltb}
+use Rattle.std.specs.List.Sorted.{IsPartitionedBy}
 use Rattle.std.proofs.lemmas.Bool.Decides.{nat_tests}
 use Rattle.std.proofs.lemmas.List.Elements.{filter-append}
 use Rattle.rv_base.specs.Sorted.{InOrder}
-use Rattle.rv_base.specs.Positions.{Above, Below}
+use Rattle.rv_base.specs.PositionLaws.{Above}
 use Rattle.rv_book.specs.declared.page.Page.{Page}
-use Rattle.rv_book.specs.Book.{Book, no_page, size}
+use Rattle.rv_book.specs.Book.{Book, size}
 use Rattle.rv_keeper.specs.declared.cell.Cell.{Cell}
 use Rattle.rv_keeper.specs.declared.loaded.Loaded.{Loaded}
-use Rattle.rv_keeper.specs.Cells.{AreCells, cell_key}
+use Rattle.rv_keeper.specs.Cells.{cell_key}
 use Rattle.rv_record.specs.declared.fault.CellFault.{CellFault}
 use Rattle.rv_record.specs.declared.fault.CellFault.TheVariants.{BadCell, Memory}
 use Rattle.rv_record.specs.declared.fault.Damage.{Damage}
-use Rattle.rv_opening.specs.declared.page_read.PageRead.{PageRead}
-use Rattle.rv_opening.specs.Begins.{BreaksPage}
-use Rattle.rv_opening.specs.PageCells.{on_page, page_cells}
-use Rattle.rv_opening.specs.PageReads.{IsKeptPage, ReadsPage}
+use Rattle.rv_record.specs.declared.page_read.PageRead.{PageRead}
+use Rattle.rv_record.specs.Begins.{BreaksPage}
+use Rattle.rv_record.specs.PageCells.{on_page, page_cells}
+use Rattle.rv_record.specs.PageReads.{ReadsPage}
 use Rattle.rv_state.specs.Standing.{Standing}
 use Rattle.rv_store.specs.Opening.{BreaksAt, HasEntries, IsDamaged, IsPageOf, MayOpen, Restores, another, breaks, breaks_page, differs, other_shelves, page_shelves}
-use Rattle.rv_store.specs.OpeningSteps.{ComparesOthers, Differs, EntersAll, Stands, page_or_none}
-use Rattle.rv_store.specs.StoreBooks.{are_on_page, other_shelves-all, other_shelves-none, page_shelves-all, page_shelves-none}
+use Rattle.rv_store.specs.OpeningSteps.{ComparesOthers, EntersAll, Stands, page_or_none}
+use Rattle.rv_store.specs.StoreBookLaws.{are_on_page, other_shelves-all, other_shelves-none, page_shelves-all, page_shelves-none}
 use Rattle.rv_store.specs.ShelfLaws.{lower_shelf}
 use Rattle.rv_store.specs.StoreCells.{AreDerived, derived_cells, entry_cells}
 use Rattle.rv_store.proofs.Behind.{derived-low, front_in_order}

@@ -3,11 +3,11 @@ use Rattle.std.proofs.Common.{List, [], ◌∷◌, subst, sym}
 use Rattle.rv_book.specs.declared.entry.Entry.{Entry}
 use Rattle.rv_book.specs.declared.entry.Entry.TheVariants.{Act, Look, Retire}
 use Rattle.rv_book.specs.Book.{Book, opening, with_entries, with_entry}
-use Rattle.rv_book.specs.BookWords.{with_entries-none, with_entry-more}
+use Rattle.rv_book.specs.BookWordLaws.{with_entries-none, with_entry-more}
 use Rattle.rv_book.specs.Registers.{RetiresBound}
 use Rattle.rv_book.specs.RegisterLaws.{BoundIfRetired, retires_bound-opening, retires_bound-with_entry}
 use Rattle.rv_history.specs.Lawful.{IsLawful, IsLawfulAfter}
-use Rattle.rv_history.specs.LawfulBooks.{here, onward}
+use Rattle.rv_history.specs.LawfulBookLaws.{here, onward}
 
 bound_if_retired : (before : Book) (e : Entry) → IsLawfulAfter before e → BoundIfRetired before e
 bound_if_retired before (Act user group client id call) next = tt

@@ -6,8 +6,8 @@ use Rattle.std.specs.Str.{bytes_eq}
 use Rattle.std.proofs.lemmas.List.Sums.{fold-append}
 use Rattle.std.proofs.lemmas.Map.Entries.{option_filter}
 use Rattle.rv_base.specs.Sorted.{find_by, Distinct}
-use Rattle.rv_base.specs.Positions.{found-sorted, none_found}
-use Rattle.rv_base.specs.Arranged.{distinct-sorted, distinct-filter, find-filter, find-map}
+use Rattle.rv_base.specs.PositionLaws.{found-sorted, none_found}
+use Rattle.rv_base.specs.ArrangedLaws.{distinct-sorted, distinct-filter, find-filter, find-map}
 use Rattle.rv_rows.specs.declared.call.Call.{Call}
 use Rattle.rv_rows.specs.declared.key.Key.{Key}
 use Rattle.rv_rows.specs.declared.row.Row.{Row}

@@ -11,21 +11,21 @@ use Rattle.std.proofs.lemmas.Cmp.{nat_list_cmp_total}
 use Rattle.std.proofs.lemmas.Option.{same_Some}
 use Rattle.std.proofs.lemmas.List.Sums.{fold-append}
 use Rattle.std.proofs.lemmas.Slice.Eq.{bytes_eq-Decides}
-use Rattle.rv_base.specs.Sorted.{put_by, without, InOrder}
-use Rattle.rv_base.specs.Positions.{Below, differs_back, equals, not_same, without_above}
+use Rattle.rv_base.specs.Sorted.{put_by, without, InOrder, Below}
+use Rattle.rv_base.specs.PositionLaws.{differs_back, equals, not_same, without_above}
 use Rattle.rv_views.specs.Viewed.{Viewed}
 use Rattle.rv_book.specs.declared.entry.Entry.TheVariants.{Retire}
 use Rattle.rv_book.specs.Book.{Book, size, with_entry, retired}
-use Rattle.rv_book.specs.Kept.{kept, is_look_at, later_looks, falls_at, falls_out}
-use Rattle.rv_book.specs.LookLaws.{is_place, kept-look, kept-with_entry}
+use Rattle.rv_book.specs.Kept.{kept, is_look_at, later_looks, falls_at, falls_out, is_place}
+use Rattle.rv_book.specs.LookLaws.{kept-look, kept-with_entry}
 use Rattle.rv_news.specs.Records.{Placed, IsRecord}
 use Rattle.rv_keeper.specs.declared.cell.Cell.{Cell}
 use Rattle.rv_keeper.specs.declared.change.Change.TheVariants.{Put, Remove}
 use Rattle.rv_keeper.specs.Cells.{changed_by, changed}
 use Rattle.rv_record.specs.CellTexts.{ten_digits, view_cell}
-use Rattle.rv_record.specs.PlaceOrder.{ten_digits-order, ten_digits-injective}
+use Rattle.rv_record.specs.PlaceOrderLaws.{ten_digits-order, ten_digits-injective}
 use Rattle.rv_store.specs.StoreCells.{view_cells}
-use Rattle.rv_store.specs.StoreOrder.{record_key}
+use Rattle.rv_store.specs.StoreOrderLaws.{record_key}
 use Rattle.rv_store.specs.ShelfLaws.{all-filter, put-cells, without-cells}
 use Rattle.rv_store.specs.EntryChanges.{gone_view, gone_views}
 

@@ -10,7 +10,7 @@ use Rattle.rv_book.specs.Book.{Book}
 use Rattle.rv_news.specs.Records.{Placed}
 use Rattle.rv_keeper.specs.declared.change.Change.{Change}
 use Rattle.rv_keeper.specs.declared.change.Change.TheVariants.{Put, Remove}
-use Rattle.rv_opening.specs.PageCells.{PageClient, PageGroup}
+use Rattle.rv_record.specs.PageCells.{PageClient, PageGroup}
 use Rattle.rv_record.specs.CellTexts.{ten_digits, page_cell, page_row_cell, page_client_cell, page_group_cell}
 
 -- so many entries are removed, of which the first stands at this place

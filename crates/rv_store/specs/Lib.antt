@@ -1,10 +1,10 @@
 pub mod StoreCells
 pub mod ShelfLaws
-pub mod StoreOrder
+pub mod StoreOrderLaws
 pub mod Opening
 pub mod OpeningSteps
-pub mod StoreUnique
-pub mod StoreBooks
+pub mod StoreUniqueLaws
+pub mod StoreBookLaws
 pub mod EntryChanges
 pub mod OpeningLaws
 pub mod ClosingChanges

@@ -17,9 +17,9 @@ use Rattle.rv_record.specs.declared.fault.CellFault.TheVariants.{BadCell, Memory
 use Rattle.rv_record.specs.declared.fault.Damage.{Damage}
 use Rattle.rv_record.specs.CellReading.{damage_at}
 use Rattle.rv_record.specs.EntryReading.{EntryFits}
-use Rattle.rv_opening.specs.PageCells.{PartsFit, on_page}
-use Rattle.rv_opening.specs.Begins.{BreaksPage}
-use Rattle.rv_opening.specs.PageReads.{IsKeptPage}
+use Rattle.rv_record.specs.PageCells.{PartsFit, on_page}
+use Rattle.rv_record.specs.Begins.{BreaksPage}
+use Rattle.rv_record.specs.PageReads.{IsKeptPage}
 use Rattle.rv_state.specs.Standing.{Standing}
 use Rattle.rv_state.specs.Entering.{IsBrokenEntry}
 use Rattle.rv_store.specs.StoreCells.{AreDerived, IsKeptAs, entry_cells}

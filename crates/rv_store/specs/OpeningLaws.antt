@@ -6,7 +6,7 @@ use Rattle.rv_book.specs.declared.entry.Entry.{Entry}
 use Rattle.rv_book.specs.declared.page.Page.{Page}
 use Rattle.rv_book.specs.Book.{Book, no_page, size, with_entries}
 use Rattle.rv_book.specs.SoundPages.{IsOpening}
-use Rattle.rv_book.specs.BookWords.{size-with_entries}
+use Rattle.rv_book.specs.BookWordLaws.{size-with_entries}
 use Rattle.rv_keeper.specs.declared.cell.Cell.{Cell}
 use Rattle.rv_keeper.specs.declared.loaded.Loaded.{Loaded}
 use Rattle.rv_keeper.specs.Cells.{cell_key}
@@ -15,14 +15,14 @@ use Rattle.rv_record.specs.declared.fault.CellFault.TheVariants.{BadCell, Memory
 use Rattle.rv_record.specs.declared.fault.Damage.{Damage}
 use Rattle.rv_record.specs.CellTexts.{entry_cell}
 use Rattle.rv_record.specs.EntryReading.{EntryFits}
-use Rattle.rv_opening.specs.PageCells.{PartsFit, page_cells}
-use Rattle.rv_opening.specs.Begins.{BreaksPage}
-use Rattle.rv_opening.specs.PageLaws.{kept_unbroken, none_kept_unbroken}
+use Rattle.rv_record.specs.PageCells.{PartsFit, page_cells}
+use Rattle.rv_record.specs.Begins.{BreaksPage}
+use Rattle.rv_record.specs.PageLaws.{kept_unbroken, none_kept_unbroken}
 use Rattle.rv_state.specs.Entering.{IsBrokenEntry}
 use Rattle.rv_state.specs.Standing.{Standing}
 use Rattle.rv_store.specs.StoreCells.{AreDerived, entry_cells}
-use Rattle.rv_store.specs.StoreUnique.{derived_unique}
-use Rattle.rv_store.specs.StoreBooks.{AreBeside, HasParts, IsTold, entries_front, entries_beside, kept_parts, kept_unique, page_told, same_book, sound-told}
+use Rattle.rv_store.specs.StoreUniqueLaws.{derived_unique}
+use Rattle.rv_store.specs.StoreBookLaws.{AreBeside, HasParts, IsTold, entries_front, entries_beside, kept_parts, kept_unique, page_told, same_book, sound-told}
 use Rattle.rv_store.specs.Opening.{IsSoundBook, IsPageOf, MayOpen, BreaksAt, DiffersAt, HasOtherGeneration, HasEntries, IsDamaged, breaks_page, breaks, differs, another, other_shelves, page_shelves, Restores}
 
 -- at most one book opens

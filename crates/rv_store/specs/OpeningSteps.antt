@@ -10,8 +10,8 @@ use Rattle.rv_keeper.specs.declared.cell.Cell.{Cell}
 use Rattle.rv_keeper.specs.Cells.{cell_key}
 use Rattle.rv_record.specs.declared.fault.CellFault.{CellFault}
 use Rattle.rv_record.specs.declared.fault.CellFault.TheVariants.{BadCell, Memory}
-use Rattle.rv_opening.specs.declared.page_read.PageRead.{PageRead}
-use Rattle.rv_opening.specs.PageCells.{PartsFit}
+use Rattle.rv_record.specs.declared.page_read.PageRead.{PageRead}
+use Rattle.rv_record.specs.PageCells.{PartsFit}
 use Rattle.rv_state.specs.Standing.{Standing}
 use Rattle.rv_store.specs.StoreCells.{AreDerived}
 use Rattle.rv_store.specs.Opening.{IsFirstDifference, BreaksAt, HasEntries}

@@ -9,8 +9,8 @@ use Rattle.std.specs.Ordering.{nat_cmp, match_ordering, ordering_then, is_eq}
 use Rattle.std.specs.Str.{bytes_eq}
 use Rattle.std.proofs.lemmas.List.Elements.{filter-append}
 use Rattle.std.proofs.lemmas.Map.Text.{is_eq-slice_cmp}
-use Rattle.rv_base.specs.Sorted.{find_by, without, put_by, InOrder, Distinct}
-use Rattle.rv_base.specs.Positions.{Below, Above, all-put}
+use Rattle.rv_base.specs.Sorted.{find_by, without, put_by, InOrder, Distinct, Below}
+use Rattle.rv_base.specs.PositionLaws.{Above, all-put}
 use Rattle.rv_keeper.specs.declared.cell.Cell.{Cell}
 use Rattle.rv_keeper.specs.declared.change.Change.{Change}
 use Rattle.rv_keeper.specs.declared.change.Change.TheVariants.{Put, Remove}

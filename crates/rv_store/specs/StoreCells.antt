@@ -11,7 +11,7 @@ use Rattle.rv_history.specs.Served.{Doubt, with_doubt}
 use Rattle.rv_news.specs.Records.{Placed, AreRecords}
 use Rattle.rv_keeper.specs.declared.cell.Cell.{Cell}
 use Rattle.rv_keeper.specs.declared.loaded.Loaded.{Loaded}
-use Rattle.rv_opening.specs.PageCells.{page_cells}
+use Rattle.rv_record.specs.PageCells.{page_cells}
 use Rattle.rv_record.specs.CellTexts.{entry_cell, row_cell, client_cell, group_cell, view_cell}
 
 -- the entries, each under its place, of which the first is this

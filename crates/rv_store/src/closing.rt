@@ -1,6 +1,7 @@
 // The changes of cells that closing a book makes.
 ghost use Rattle.std.specs.Prelude.{◌≡◌, ◌+◌, ◌++◌, length, IfOk, OnOk};
 ghost use Rattle.rv_book.specs.SoundPages.{IsOpening};
+ghost use Rattle.rv_keeper.specs.ShelfNumbers.{shelf_number};
 ghost use Rattle.rv_keeper.specs.declared.change.Change.TheVariants as Change;
 ghost use Rattle.rv_record.specs.CellTexts.{ten_digits};
 ghost use Rattle.rv_rows.specs.Keys.{row_text};
@@ -12,7 +13,7 @@ ghost use Rattle.rv_store.specs.EntryChanges.{Enters};
 
 use rv_base::{Id, Memory, Num, Sequence, User};
 use rv_book::{Book, Page};
-use rv_keeper::Change;
+use rv_keeper::{Change, Shelf};
 use rv_news::Records;
 use rv_record::{
     cell_of_page, cell_of_page_client, cell_of_page_group, cell_of_page_row, ten_digits,
@@ -21,20 +22,11 @@ use rv_rows::{Row, Tables};
 use rv_state::State;
 use std::alloc::Global;
 
-// The shelf of entries.
-const ENTRIES: u8 = 1;
-
-// The shelf of view records.
-const VIEWS: u8 = 5;
-
-// The shelf of a page's rows.
-const PAGE_ROWS: u8 = 7;
-
 // What stands on a shelf under a place is removed.
-fn removed_place(alloc: Global, shelf: u8, place: u32) -> Result<Change, Memory>
-    ensures { IfOk result (λ change. change ≡ Change.Remove shelf (ten_digits place)) }
+fn removed_place(alloc: Global, shelf: Shelf, place: u32) -> Result<Change, Memory>
+    ensures { IfOk result (λ change. change ≡ Change.Remove (shelf_number shelf) (ten_digits place)) }
 {
-    Ok(Change::Remove(shelf, ten_digits(alloc, place)?))
+    Ok(Change::Remove(shelf.number(), ten_digits(alloc, place)?))
 }
 
 // A row of a page is removed.
@@ -42,7 +34,10 @@ fn removed_page_row(alloc: Global, row: &Row) -> Result<Change, Memory>
     ensures { IfOk result (λ change. change ≡ Change.Remove 7 (row_text row.now)) }
 {
     let text = row.kind().key_text(alloc, row.id())?;
-    Ok(Change::Remove(PAGE_ROWS, Sequence::from_vec(text.into_bytes())))
+    Ok(Change::Remove(
+        Shelf::PageRows.number(),
+        Sequence::from_vec(text.into_bytes()),
+    ))
 }
 
 // The entries are removed.
@@ -50,7 +45,7 @@ fn add_gone_entries(alloc: Global, changes: &mut Vec<Change>, book: &Book) -> Re
     ensures { OnOk result (changes.new.items ≡ changes.old.items ++ gone_entries (book.now.book.page.at + 1) (length book.now.book.entries)) }
 {
     for before in book.opened_at()..book.len() {
-        changes.push(removed_place(alloc, ENTRIES, before + 1)?)?;
+        changes.push(removed_place(alloc, Shelf::Entries, before + 1)?)?;
     }
     Ok(())
 }
@@ -64,7 +59,7 @@ fn add_gone_records(
     ensures { OnOk result (changes.new.items ≡ changes.old.items ++ gone_records records.now.records) }
 {
     for (place, _) in records.as_slice() {
-        changes.push(removed_place(alloc, VIEWS, *place)?)?;
+        changes.push(removed_place(alloc, Shelf::Views, *place)?)?;
     }
     Ok(())
 }

@@ -10,8 +10,7 @@ ghost use Rattle.rv_store.specs.OpeningSteps.{EntersAll, Stands, page_or_none};
 use json::Scratch;
 use rv_base::Memory;
 use rv_keeper::Cell;
-use rv_opening::PageRead;
-use rv_record::CellFault;
+use rv_record::{CellFault, PageRead};
 use rv_state::State;
 use std::alloc::Global;
 
@@ -26,8 +25,8 @@ fn begin(alloc: Global, page: Option<PageRead>, limit: u32) -> Result<State, Mem
         Some(PageRead { page, tables }) => State::opening(alloc, limit, page, tables)?,
         None => State::new(alloc, limit),
     };
-    // The book tells that it is lawful, and within its limit.
-    let _length = state.book().len();
+    // The book is lawful, and within its limit.
+    state.book().fits();
     Ok(state)
 }
 

@@ -9,12 +9,11 @@ use crate::comparing::compare_others;
 use crate::entering::enter_all;
 use rv_base::Bytes;
 use rv_keeper::{Cell, Loaded};
-use rv_opening::read_page;
-use rv_record::{CellFault, Damage};
+use rv_record::{CellFault, Damage, read_page};
 use rv_state::State;
 use std::alloc::Global;
 
-// The first and the last shelf of a page.
+// The first shelf of a page, and the first behind those of a page.
 const PAGE: u8 = 6;
 
 const BEHIND_PAGE: u8 = 10;

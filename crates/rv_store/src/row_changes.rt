@@ -5,21 +5,18 @@ ghost use Rattle.rv_rows.specs.Keys.{key_text};
 ghost use Rattle.rv_store.specs.EntryChanges.{removed_rows, row_changes, written_rows};
 
 use rv_base::{Memory, Sequence};
-use rv_keeper::Change;
+use rv_keeper::{Change, Shelf};
 use rv_mutators::Staged;
 use rv_record::cell_of_row;
 use rv_rows::{Key, Row};
 use std::alloc::Global;
-
-// The shelf of rows.
-const ROWS: u8 = 2;
 
 // The row of a key is removed.
 fn removed_row(alloc: Global, key: &Key) -> Result<Change, Memory>
     ensures { IfOk result (λ change. change ≡ Change.Remove 2 (key_text key.now)) }
 {
     let text = key.kind.key_text(alloc, key.id.as_str())?;
-    Ok(Change::Remove(ROWS, Sequence::from_vec(text.into_bytes())))
+    Ok(Change::Remove(Shelf::Rows.number(), Sequence::from_vec(text.into_bytes())))
 }
 
 // The rows of the keys are removed.

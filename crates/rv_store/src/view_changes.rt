@@ -7,19 +7,16 @@ ghost use Rattle.rv_store.specs.EntryChanges.{gone_view, gone_views};
 
 use rv_base::{Id, Memory};
 use rv_book::Book;
-use rv_keeper::Change;
+use rv_keeper::{Change, Shelf};
 use rv_news::Records;
 use rv_record::ten_digits;
 use std::alloc::Global;
-
-// The shelf of view records.
-const VIEWS: u8 = 5;
 
 // The view record of the look at a place is removed.
 fn removed_view(alloc: Global, place: u32) -> Result<Change, Memory>
     ensures { IfOk result (λ change. change ≡ Change.Remove 5 (ten_digits place)) }
 {
-    Ok(Change::Remove(VIEWS, ten_digits(alloc, place)?))
+    Ok(Change::Remove(Shelf::Views.number(), ten_digits(alloc, place)?))
 }
 
 // The view record of the look at a place is removed, if there is a place.

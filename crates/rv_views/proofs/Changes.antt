@@ -8,8 +8,8 @@ use Rattle.std.specs.List.{filter, list_any, take_while}
 use Rattle.std.proofs.lemmas.List.{map-append}
 use Rattle.std.proofs.lemmas.List.Sums.{take_while-cons}
 use Rattle.std.proofs.lemmas.Slice.Eq.{bytes_eq-Decides}
-use Rattle.rv_base.specs.Sorted.{InOrder, without}
-use Rattle.rv_base.specs.Positions.{Below, Above, below_is, same_from, differs, differs_back, equals, above_chain, without_above, in_order-without}
+use Rattle.rv_base.specs.Sorted.{InOrder, without, Below}
+use Rattle.rv_base.specs.PositionLaws.{Above, below_is, same_from, differs, differs_back, equals, above_chain, without_above, in_order-without}
 use Rattle.rv_views.specs.Walks.{rest_from, begins_with}
 use Rattle.rv_views.proofs.Merges.{drop_at_item, in_order-drop, rest_order, met, unmet, met_above, unmet_step}
 

@@ -1,6 +1,6 @@
 -- The lists of a difference are in order.
 use Rattle.std.proofs.Common.{ℕ, not, map, List, [], ◌∷◌}
-use Rattle.rv_base.specs.Positions.{Above, in_order-filter}
+use Rattle.rv_base.specs.PositionLaws.{Above, in_order-filter}
 use Rattle.rv_rows.specs.declared.key.Key.{Key}
 use Rattle.rv_rows.specs.Keys.{key_text}
 use Rattle.rv_views.specs.Viewed.{AreSeen, AreClients, seen_key, client_of_pair}

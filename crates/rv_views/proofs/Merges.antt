@@ -7,8 +7,8 @@ use Rattle.std.specs.Str.{bytes_eq}
 use Rattle.std.specs.List.{filter, list_any}
 use Rattle.std.proofs.lemmas.Cmp.{nat_list_cmp_total}
 use Rattle.std.proofs.lemmas.Map.Text.{is_eq-slice_cmp}
-use Rattle.rv_base.specs.Sorted.{InOrder}
-use Rattle.rv_base.specs.Positions.{Below, Above, below_is, same_from, differs, differs_back, above_chain}
+use Rattle.rv_base.specs.Sorted.{InOrder, Below}
+use Rattle.rv_base.specs.PositionLaws.{Above, below_is, same_from, differs, differs_back, above_chain}
 use Rattle.rv_views.specs.Walks.{rest_from, begins_with}
 
 -- keys compare as equal exactly where their bytes are

@@ -2,7 +2,7 @@
 use Rattle.std.proofs.Common.{◌≡◌, ℕ, Bool, true, false, not, ◌||◌, ◌&&◌, ◌==◌, map, List, [], ◌∷◌, Some, refl, ap, eq-eqb}
 use Rattle.std.specs.List.{filter, list_any}
 use Rattle.std.specs.Str.{bytes_eq}
-use Rattle.rv_base.specs.Positions.{equals}
+use Rattle.rv_base.specs.PositionLaws.{equals}
 use Rattle.rv_rows.specs.declared.key.Key.{Key}
 use Rattle.rv_views.specs.Viewed.{Viewed, seen_key}
 use Rattle.rv_views.specs.Difference.{is_absent, is_untouched, is_among, lost_keys, touched_keys, changed_ids, difference}

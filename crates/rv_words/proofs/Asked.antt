@@ -5,7 +5,7 @@ use Rattle.std.specs.Str.{bytes_eq}
 use Rattle.std.specs.Cmp.Lexicographic.{same_text}
 use Rattle.rv_words.specs.Words.{command_in, is_id, retire_group_in}
 use Rattle.rv_words.specs.Plain.{asked_with, is_flag, export_with, import_with, make_with, retire_with, values_in}
-use Rattle.rv_words.specs.Laws.{AskForNothing, EachGroupIsAsked, EachStoreIsAsked, OthersAskForNothing, RetireIsAsked, StoresAreAsked, begins_with_hyphen}
+use Rattle.rv_words.specs.Properties.{AskForNothing, EachGroupIsAsked, EachStoreIsAsked, OthersAskForNothing, RetireIsAsked, StoresAreAsked, begins_with_hyphen}
 use Rattle.rv_words.specs.declared.command.Command.{Command}
 use Rattle.rv_words.specs.declared.command.Command.TheVariants.{Retire}
 use Rattle.rv_words.proofs.Lines.{line_is_plain, other_line}

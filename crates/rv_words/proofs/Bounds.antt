@@ -5,7 +5,7 @@ use Rattle.std.specs.List.{list_any}
 use Rattle.std.specs.Str.{bytes_eq}
 use Rattle.rv_words.specs.Numbers.{number_in}
 use Rattle.rv_words.specs.Plain.{Part, defaults, part_values, serve_with, the_only, the_value, values_or}
-use Rattle.rv_words.specs.ServeLaws.{IsInBounds, NumbersAreInBounds}
+use Rattle.rv_words.specs.ServeProperties.{IsInBounds, NumbersAreInBounds}
 use Rattle.rv_words.proofs.Parts.{NeedsNumber, needs_connections, needs_poke_port, needs_pokes, needs_port, needs_workers}
 use Rattle.rv_words.proofs.Lines.{line_is_plain}
 

@@ -9,8 +9,8 @@ use Rattle.std.proofs.lemmas.Bool.Decides.{nat_tests}
 use Rattle.rv_words.specs.Numbers.{number_in}
 use Rattle.rv_words.specs.Words.{as_import_name, as_user, command_in, export_of, follow_of, import_of, is_id, make_of, options_with, retire_group_in}
 use Rattle.rv_words.specs.Plain.{Part, asked_with, export_with, follow_with, import_with, make_with, on_store_with, parts_from, plainly_in, retire_with, serve_with, the_value, values_in}
-use Rattle.rv_words.specs.Laws.{GroupsAreIds, IsUser, NamesImport, SeedsAreInBounds, UsersAreUsers}
-use Rattle.rv_words.specs.FollowLaws.{PortsAreInBounds}
+use Rattle.rv_words.specs.Properties.{GroupsAreIds, IsUser, NamesImport, SeedsAreInBounds, UsersAreUsers}
+use Rattle.rv_words.specs.FollowProperties.{PortsAreInBounds}
 use Rattle.rv_words.specs.declared.command.Command.{Command}
 use Rattle.rv_words.specs.declared.command.Command.TheVariants.{Activity, Check, CloseBook, Export, Feed, Follow, Import, Lists, Make, Retire, Serve, Ship}
 use Rattle.rv_words.specs.declared.serve_options.ServeOptions.{ServeOptions}

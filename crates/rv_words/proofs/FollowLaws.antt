@@ -6,8 +6,8 @@ use Rattle.std.specs.Str.{bytes_eq}
 use Rattle.std.specs.Cmp.Lexicographic.{same_text}
 use Rattle.rv_words.specs.Words.{command_in, follow_of}
 use Rattle.rv_words.specs.Plain.{Part, follow_with, parts_from, with_part}
-use Rattle.rv_words.specs.FollowLaws.{FollowIsAsked, OnlyAPortIsFollowed}
-use Rattle.rv_words.specs.ServeLaws.{joined}
+use Rattle.rv_words.specs.FollowProperties.{FollowIsAsked, OnlyAPortIsFollowed}
+use Rattle.rv_words.specs.ServeProperties.{joined}
 use Rattle.rv_words.specs.declared.command.Command.TheVariants.{Follow}
 use Rattle.rv_words.proofs.ServeLaws.{decimal_is_plain, in_bounds, plain_value}
 use Rattle.rv_words.proofs.Lines.{line_is_plain}

@@ -5,7 +5,7 @@ use Rattle.std.specs.List.{fold, list_any}
 use Rattle.std.specs.Option.{option_map_or}
 use Rattle.std.specs.Str.{bytes_eq}
 use Rattle.std.specs.Cmp.Lexicographic.{same_text}
-use Rattle.rv_base.specs.Positions.{not_same}
+use Rattle.rv_base.specs.PositionLaws.{not_same}
 use Rattle.clap.specs.Lexer.{name_and_value}
 use Rattle.clap.specs.Kinds.{Kinds, or_else}
 use Rattle.clap.specs.Walk.{Held, Row, Rule, Step, Text, Walk, after_step, option, settled_rows, used, walked, with_default}

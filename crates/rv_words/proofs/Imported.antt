@@ -6,7 +6,7 @@ use Rattle.std.specs.Str.{bytes_eq}
 use Rattle.std.proofs.lemmas.Bool.Decides.{nat_tests}
 use Rattle.rv_words.specs.Words.{as_import_name, as_user, command_in, export_of, import_of}
 use Rattle.rv_words.specs.Plain.{asked_with, values_in}
-use Rattle.rv_words.specs.Laws.{ExportIsAsked, ImportIsAsked, IsAskedWith, IsUser, NamesImport, NoneBeginsWithHyphen, begins_with_hyphen}
+use Rattle.rv_words.specs.Properties.{ExportIsAsked, ImportIsAsked, IsAskedWith, IsUser, NamesImport, NoneBeginsWithHyphen, begins_with_hyphen}
 use Rattle.rv_words.specs.declared.command.Command.{Command}
 use Rattle.rv_words.specs.declared.command.Command.TheVariants.{Export, Import}
 use Rattle.rv_words.proofs.Asked.{is_value}

@@ -3,11 +3,11 @@ use Rattle.std.proofs.Common.{◌≡◌, ◌∙◌, ◌≤◌, ap, arith, refl, 
 use Rattle.std.specs.Prelude.{option_and_then}
 use Rattle.std.specs.Int.{IsInRange}
 use Rattle.std.proofs.lemmas.Fmt.{decimal_is_IsNumeral}
-use Rattle.rv_base.specs.Positions.{equals}
+use Rattle.rv_base.specs.PositionLaws.{equals}
 use Rattle.rv_words.specs.Numbers.{number_in}
 use Rattle.rv_words.specs.Words.{make_of}
 use Rattle.rv_words.specs.Plain.{asked_with}
-use Rattle.rv_words.specs.Laws.{MakeIsAsked, begins_with_hyphen}
+use Rattle.rv_words.specs.Properties.{MakeIsAsked, begins_with_hyphen}
 use Rattle.rv_words.specs.declared.command.Command.TheVariants.{Make}
 use Rattle.rv_words.proofs.Asked.{is_value, one_value}
 use Rattle.rv_words.proofs.Numbers.{number_read}

@@ -6,11 +6,11 @@ use Rattle.std.specs.Int.{IsInRange}
 use Rattle.std.specs.List.{list_any}
 use Rattle.std.specs.Option.{option_map_or}
 use Rattle.std.specs.Str.{bytes_eq}
-use Rattle.rv_base.specs.Positions.{equals}
+use Rattle.rv_base.specs.PositionLaws.{equals}
 use Rattle.rv_words.specs.Numbers.{number_in}
 use Rattle.rv_words.specs.Words.{options_with, serve_by}
 use Rattle.rv_words.specs.Plain.{Part, defaults, is_flag, is_option, option_name, option_value, part_values, parts_from, serve_with, the_only, the_value, values_or, with_part}
-use Rattle.rv_words.specs.ServeLaws.{AsksToServe, IsWhole, PokesAreAsked, PokesHaveDefaults, joined, namings}
+use Rattle.rv_words.specs.ServeProperties.{AsksToServe, IsWhole, PokesAreAsked, PokesHaveDefaults, joined, namings}
 use Rattle.rv_words.specs.declared.command.Command.{Command}
 use Rattle.rv_words.specs.declared.command.Command.TheVariants.{Serve}
 use Rattle.rv_words.specs.declared.serve_options.ServeOptions.{ServeOptions}

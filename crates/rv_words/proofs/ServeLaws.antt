@@ -10,12 +10,12 @@ use Rattle.std.specs.Fmt.{digits}
 use Rattle.std.specs.Str.Parse.{AllDigits}
 use Rattle.std.specs.Cmp.Lexicographic.{same_text}
 use Rattle.std.proofs.lemmas.Fmt.{decimal_is_IsNumeral}
-use Rattle.rv_base.specs.Positions.{equals}
+use Rattle.rv_base.specs.PositionLaws.{equals}
 use Rattle.rv_words.specs.Numbers.{number_in}
 use Rattle.rv_words.specs.Words.{command_in, options_with, serve_by}
 use Rattle.rv_words.specs.Plain.{Part, defaults, the_value, is_flag, is_option, needed_names, option_name, option_value, parts_from, serve_with, the_only, part_values, values_or, with_part}
-use Rattle.rv_words.specs.Laws.{begins_with_hyphen}
-use Rattle.rv_words.specs.ServeLaws.{EachOptionStandsOnce, NoOtherFlagStands, ServeIsAsked, before_hyphens, joined, namings}
+use Rattle.rv_words.specs.Properties.{begins_with_hyphen}
+use Rattle.rv_words.specs.ServeProperties.{EachOptionStandsOnce, NoOtherFlagStands, ServeIsAsked, before_hyphens, joined, namings}
 use Rattle.rv_words.specs.declared.command.Command.{Command}
 use Rattle.rv_words.specs.declared.command.Command.TheVariants.{Serve}
 use Rattle.rv_words.proofs.Numbers.{number_read}

@@ -2,6 +2,6 @@ pub mod Numbers
 pub mod Table
 pub mod Words
 pub mod Plain
-pub mod Laws
-pub mod ServeLaws
-pub mod FollowLaws
+pub mod Properties
+pub mod ServeProperties
+pub mod FollowProperties

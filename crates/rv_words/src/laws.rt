@@ -1,7 +1,7 @@
 //! What follows of what the words ask for, as contracts of functions that do nothing: a check of the crate proves them.
-ghost use Rattle.rv_words.specs.FollowLaws.{FollowIsAsked, OnlyAPortIsFollowed, PortsAreInBounds};
-ghost use Rattle.rv_words.specs.ServeLaws.{EachOptionStandsOnce, NoOtherFlagStands, NumbersAreInBounds, PokesAreAsked, PokesHaveDefaults, ServeIsAsked};
-ghost use Rattle.rv_words.specs.Laws.{
+ghost use Rattle.rv_words.specs.FollowProperties.{FollowIsAsked, OnlyAPortIsFollowed, PortsAreInBounds};
+ghost use Rattle.rv_words.specs.ServeProperties.{EachOptionStandsOnce, NoOtherFlagStands, NumbersAreInBounds, PokesAreAsked, PokesHaveDefaults, ServeIsAsked};
+ghost use Rattle.rv_words.specs.Properties.{
   AskForNothing,
   EachGroupIsAsked,
   EachStoreIsAsked,

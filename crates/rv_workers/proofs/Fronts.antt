@@ -6,7 +6,7 @@ use Rattle.rv_book.specs.Book.{Extends}
 use Rattle.rv_book.specs.declared.entry.Entry.{Entry}
 use Rattle.rv_history.specs.Served.{Next}
 use Rattle.rv_keeper.specs.declared.keeper.Keeper.{Ghosts}
-use Rattle.rv_desk.specs.Seated.{Seated}
+use Rattle.rv_desk.specs.DeskStates.{DeskState}
 use Rattle.rv_room.specs.declared.view.SeatView.{SeatView}
 use Rattle.rv_room.specs.Closing.{Closes, SomeLeft}
 use Rattle.rv_room.specs.Following.{FollowsAll}
@@ -35,7 +35,7 @@ all_both P Q R so (x ∷ xs) (one, rest) (other, others) = (so x one other, all_
 none_at : (k : ℕ) (e : Entry) → slice_get [] k ≡ Some (Next.entry e) → ⊥
 none_at k e is = absurd (cc)
 
-module _ {K : Type 0} (opened : Seated K) where
+module _ {K : Type 0} (opened : DeskState K) where
   abbrev Idle : SeatView K → Type 0
   Idle = HasEnteredNothing (newcomer 1 opened)
 
@@ -54,7 +54,7 @@ module _ {K : Type 0} (opened : Seated K) where
   left_front e (v ∷ vs) ws idle (inl here) = inl here
   left_front e (v ∷ vs) ws idle (inr more) = inr (left_front e vs ws idle more)
 
-  pub closes_front : (G : Ghosts K) (desk : Seated K) (vs ws : List (SeatView K)) → AllByRecursion Idle ws → Closes G opened (vs ++ ws) desk
+  pub closes_front : (G : Ghosts K) (desk : DeskState K) (vs ws : List (SeatView K)) → AllByRecursion Idle ws → Closes G opened (vs ++ ws) desk
       → Closes G opened vs desk × AllByRecursion (HasOnlyLooked G desk) ws
   closes_front G desk vs ws idle closes = (
     record {
@@ -75,7 +75,7 @@ module _ {K : Type 0} (opened : Seated K) where
   )
 
 -- seats served listeners, and the room was closed with them
-pub serves_both : {K L P : Type 0} (G : Ghosts K) (Serves : SeatView K → L → SeatView K → L → Type 0) (Pokes : SeatView K → P → SeatView K → P → Type 0) (opened desk : Seated K) (givens : List L) (poked : List P) (all : List (SeatView K)) (backs : List L) (poked_back : List P)
+pub serves_both : {K L P : Type 0} (G : Ghosts K) (Serves : SeatView K → L → SeatView K → L → Type 0) (Pokes : SeatView K → P → SeatView K → P → Type 0) (opened desk : DeskState K) (givens : List L) (poked : List P) (all : List (SeatView K)) (backs : List L) (poked_back : List P)
     → ServesSeated Serves Pokes (newcomer 1 opened) givens poked all backs poked_back → Closes G opened all desk → ServesBothKinds G Serves Pokes opened givens poked desk backs poked_back
 serves_both G Serves Pokes opened desk givens poked all backs poked_back seated closes =
     let (front, looks) = closes_front opened G desk seated.views seated.lookers seated.idle (subst (λ (vs : List (SeatView _)). Closes G opened vs desk) seated.are closes) in

@@ -6,7 +6,7 @@ use Rattle.rv_base.specs.declared.outside.Source.{Ghosts as SourceGhosts}
 use Rattle.rv_base.specs.declared.outside.Sink.{Ghosts as SinkGhosts}
 use Rattle.rv_accounts.specs.File.{AccountsServed as Accounts}
 use Rattle.rv_keeper.specs.declared.keeper.Keeper.{Ghosts}
-use Rattle.rv_desk.specs.Seated.{Seated}
+use Rattle.rv_desk.specs.DeskStates.{DeskState}
 use Rattle.rv_net.specs.declared.listen.Listen.{Ghosts as ListenGhosts}
 use Rattle.rv_room.specs.declared.view.SeatView.{SeatView}
 use Rattle.rv_room.specs.Closing.{Closes}
@@ -59,19 +59,19 @@ pub record ServesSeated {K L P : Type 0} (Serves : SeatView K → L → SeatView
   pub idle : AllByRecursion (HasEnteredNothing first) lookers
 
 -- What a seat that only looked has seen stands in the book, and the keeper follows each that it remembers.
-pub record HasOnlyLooked {K : Type 0} (G : Ghosts K) (desk : Seated K) (view : SeatView K) : Type 0 where
+pub record HasOnlyLooked {K : Type 0} (G : Ghosts K) (desk : DeskState K) (view : SeatView K) : Type 0 where
   pub seen : Extends desk.book view.seen
   pub after : FollowsAll G view.after desk.keeper
 
 -- Listeners were served side by side at a desk: each by a seat of a room that was opened with it, and the room was closed with this desk.
-pub record ServesTogether {K L : Type 0} (G : Ghosts K) (Serves : SeatView K → L → SeatView K → L → Type 0) (opened : Seated K) (givens : List L) (desk : Seated K) (backs : List L) : Type 0 where
+pub record ServesTogether {K L : Type 0} (G : Ghosts K) (Serves : SeatView K → L → SeatView K → L → Type 0) (opened : DeskState K) (givens : List L) (desk : DeskState K) (backs : List L) : Type 0 where
   pub views : List (SeatView K)
   pub serves : EachServes Serves (newcomer 1 opened) givens views backs
   pub closes : Closes G opened views desk
 
 -- Listeners of connections were served so, and listeners of links beside them, each by a seat of the same room that only looked: so all that
 -- was entered is of the seats that served connections.
-pub record ServesBothKinds {K L P : Type 0} (G : Ghosts K) (Serves : SeatView K → L → SeatView K → L → Type 0) (Pokes : SeatView K → P → SeatView K → P → Type 0) (opened : Seated K) (givens : List L) (poked : List P) (desk : Seated K) (backs : List L) (poked_back : List P) : Type 0 where
+pub record ServesBothKinds {K L P : Type 0} (G : Ghosts K) (Serves : SeatView K → L → SeatView K → L → Type 0) (Pokes : SeatView K → P → SeatView K → P → Type 0) (opened : DeskState K) (givens : List L) (poked : List P) (desk : DeskState K) (backs : List L) (poked_back : List P) : Type 0 where
   pub conns : ServesTogether G Serves opened givens desk backs
   pub lookers : List (SeatView K)
   pub pokes : EachServes Pokes (newcomer 1 opened) poked lookers poked_back
@@ -82,5 +82,5 @@ module _ {K L I O P C : Type 0} (G : Ghosts K) (listen : ListenGhosts L I O) (so
   abbrev pub ServesInRoom : SeatView K → List L → List P → List (SeatView K) → List L → List P → Type 0
   ServesInRoom = ServesSeated (IsServed G listen source sink accounts) (IsPoked G pokes link accounts)
 
-  abbrev pub ServesAtDesk : Seated K → List L → List P → Seated K → List L → List P → Type 0
+  abbrev pub ServesAtDesk : DeskState K → List L → List P → DeskState K → List L → List P → Type 0
   ServesAtDesk = ServesBothKinds G (IsServed G listen source sink accounts) (IsPoked G pokes link accounts)

@@ -7,7 +7,7 @@
 //! session waits for the bell that the crew has for its job.
 //!
 //! A [`Crew`] says how jobs are run: [`Threaded`] has a thread for each of sixteen workers and sixteen poke jobs, and its gates ring its
-//! [`Bells`]; [`Serial`] has no threads. [`run_all`] has every [`Job`] worked on once.
+//! [`Bells`]. [`run_all`] has every [`Job`] worked on once.
 #![tactic(auto)]
 
 mod bells;
@@ -16,7 +16,6 @@ mod hiring;
 mod job;
 mod poke_job;
 mod running;
-mod serial;
 mod serving;
 mod threaded;
 mod worker;
@@ -26,7 +25,6 @@ pub use crew::Crew;
 pub use job::Job;
 pub use poke_job::PokeJob;
 pub use running::run_all;
-pub use serial::Serial;
 pub use serving::{Returned, serve_listeners};
 pub use threaded::Threaded;
 pub use worker::Worker;

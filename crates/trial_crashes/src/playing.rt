@@ -3,14 +3,12 @@ use crate::held::Held;
 use json::Scratch;
 use rv_answering::{Answer, Line, line_of, serve_asked};
 use rv_base::Memory;
+use rv_book::BOOK_LIMIT;
 use rv_desk::{Desk, OpenFault};
 use rv_keeper::Keeper;
 use rv_sqlite::SqliteKeeper;
 use sqlite::{Alter, Connection};
 use std::alloc::Global;
-
-// The most entries of the book.
-const BOOK_LIMIT: u32 = 4_294_967_295;
 
 // The status of an answer that tells a trouble.
 const TROUBLE: u16 = 503;

@@ -3,8 +3,9 @@
 use crate::pieces::Pieces;
 use crate::script::{Script, accounts};
 use rv_accounts::Accounts;
+use rv_doubles::MemoryBell;
 use rv_link::SocketLink;
-use rv_poke::{MemoryBell, PokeEnd, poke_session};
+use rv_poke::{PokeEnd, poke_session};
 use std::alloc::Global;
 use std::sync::Wait;
 

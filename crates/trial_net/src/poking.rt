@@ -2,7 +2,8 @@
 use crate::script::{Script, accounts};
 use rv_accounts::Accounts;
 use rv_base::Bytes;
-use rv_poke::{First, MemoryBell, MemoryLink, poke_session};
+use rv_doubles::{MemoryBell, MemoryLink};
+use rv_poke::{First, poke_session};
 use std::alloc::Global;
 use std::sync::Wait;
 

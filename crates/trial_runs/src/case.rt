@@ -1,7 +1,8 @@
 use crate::cells::{copied, put, remove};
 use crate::running::{Finished, Pieces, run_alone, run_connected};
 use rv_base::Memory;
-use rv_keeper::{Fails, MemoryPlace, Schedule, Shelves};
+use rv_doubles::MemoryPlace;
+use rv_keeper::{Fails, Schedule, Shelves};
 use std::alloc::Global;
 use std::sync::Wait;
 use std::thread::Threads;

@@ -1,8 +1,8 @@
 // The stores of the machine.
 use crate::running::{Finished, Pieces, run_over};
 use rv_base::{Bytes, Fault, Memory};
+use rv_doubles::MemoryNet;
 use rv_keeper::Place;
-use rv_net::MemoryNet;
 use rv_place::{FileOpener, RunPlace, Start, end_run};
 use std::sync::Wait;
 use std::thread::Threads;

@@ -1,8 +1,9 @@
 // Runs of the program over a place, and an input and an output in memory.
-use rv_base::{Memory, MemorySink, MemorySource};
+use rv_base::Memory;
 use rv_cli::run;
+use rv_doubles::{MemoryConn, MemoryListen, MemoryNet, MemorySink, MemorySource};
 use rv_keeper::Place;
-use rv_net::{Conn, MemoryConn, MemoryListen, MemoryNet};
+use rv_net::Conn;
 use rv_workers::{Bells, Threaded};
 use std::alloc::Global;
 use std::sync::Wait;

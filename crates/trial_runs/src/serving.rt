@@ -2,9 +2,10 @@
 use crate::machine::run_here;
 use crate::running::{Pieces, conn_of, failing};
 use rv_base::{Bytes, Memory};
-use rv_net::{MemoryConn, MemoryListen, MemoryNet, MemoryStock, Wanted};
+use rv_doubles::{MemoryConn, MemoryLink, MemoryListen, MemoryNet, MemoryStock};
+use rv_net::Wanted;
 use rv_place::Unknown;
-use rv_poke::{First, MemoryLink};
+use rv_poke::First;
 use std::alloc::Global;
 use std::fs;
 use std::sync::Wait;

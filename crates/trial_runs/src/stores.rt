@@ -2,7 +2,7 @@
 use crate::case::Case;
 use crate::running::{Finished, Pieces, run_alone};
 use rv_base::Memory;
-use rv_keeper::MemoryPlace;
+use rv_doubles::MemoryPlace;
 use std::alloc::Global;
 use std::sync::Wait;
 use std::thread::Threads;

@@ -1,6 +1,6 @@
 // Views that are read back from CSV.
 use rv_base::Memory;
-use rv_import::{ViewFault, read_view};
+use rv_csv::{ViewFault, read_view};
 use std::alloc::Global;
 use trial_stage::Part::{Number, Text};
 use trial_stage::joined;

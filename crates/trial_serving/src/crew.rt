@@ -1,6 +1,6 @@
 // A crew whose gates look at what they hear, and may hold the first worker's requests until the second has answered one.
 use rv_base::Memory;
-use rv_poke::MemoryBell;
+use rv_doubles::MemoryBell;
 use rv_serve::Gate;
 use rv_workers::Crew;
 use std::sync::atomic::{AtomicU64, Ordering};

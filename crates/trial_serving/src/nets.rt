@@ -1,7 +1,8 @@
 // Connections in memory, and what came back to them.
 use crate::serving::Listening;
-use rv_base::{Memory, MemorySink, MemorySource};
-use rv_net::{Conn, MemoryConn, MemoryListen};
+use rv_base::Memory;
+use rv_doubles::{MemoryConn, MemoryListen, MemorySink, MemorySource};
+use rv_net::Conn;
 use std::alloc::Global;
 use trial_stage::Part::{Number, Text};
 use trial_stage::joined;

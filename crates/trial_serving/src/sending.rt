@@ -4,7 +4,7 @@ use crate::nets;
 use crate::serving::Listening;
 use rv_answering::Answer;
 use rv_base::Memory;
-use rv_net::{MemoryConn, MemoryListen};
+use rv_doubles::{MemoryConn, MemoryListen};
 use std::alloc::Global;
 use trial_stage::Part::{Number, Text};
 use trial_stage::{append_parts, joined, text_of};

@@ -3,7 +3,7 @@ use crate::crew::{Counts, WatchingCrew};
 use crate::nets::{conn, request};
 use crate::serving::{Listening, serve};
 use rv_base::Memory;
-use rv_net::{MemoryConn, MemoryListen};
+use rv_doubles::{MemoryConn, MemoryListen};
 use rv_workers::Crew;
 use std::alloc::Global;
 use std::sync::Wait;

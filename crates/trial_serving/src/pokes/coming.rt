@@ -10,8 +10,8 @@
 use crate::nets::{conn, failing, request};
 use crate::serving::Listening;
 use rv_base::{Bytes, Memory};
-use rv_net::{MemoryConn, MemoryListen};
-use rv_poke::{First, MemoryLink};
+use rv_doubles::{MemoryConn, MemoryLink, MemoryListen};
+use rv_poke::First;
 use std::alloc::Global;
 use trial_stage::Part::{Number, Text};
 use trial_stage::{first_word, joined, named, number_in};

@@ -1,8 +1,8 @@
 // What is told of listeners in memory and of their links, once they were served.
 use crate::serving::Served;
 use rv_base::Memory;
-use rv_net::{MemoryListen, MemoryPokes};
-use rv_poke::{MemoryLink, Sent};
+use rv_doubles::{MemoryLink, MemoryListen, MemoryPokes};
+use rv_poke::Sent;
 use std::alloc::Global;
 use trial_stage::Part::{Number, Text};
 use trial_stage::{append_parts, joined};

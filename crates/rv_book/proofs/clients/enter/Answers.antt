@@ -1,5 +1,5 @@
 use Rattle.std.proofs.Common.{refl}
-use Rattle.rv_base.specs.Positions.{equals}
+use Rattle.rv_base.specs.PositionLaws.{equals}
 use Rattle.rv_book.specs.Logs.{logged}
 use Rattle.rv_book.proofs.ClientLaws.{clients-same}
 use Rattle.rv_book.proofs.clients.enter.Goals as goal

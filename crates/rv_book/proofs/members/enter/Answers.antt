@@ -1,6 +1,6 @@
 use Rattle.std.proofs.Common.{◌≡◌, ◌∙◌, ℕ, true, cond, List, Option, Some, None, option_map, Bor, refl, sym, ap}
 use Rattle.std.specs.Option.{option_or, unwrap_or}
-use Rattle.rv_base.specs.Positions.{equals}
+use Rattle.rv_base.specs.PositionLaws.{equals}
 use Rattle.rv_book.specs.Entries.{is_act_of}
 use Rattle.rv_book.specs.Book.{group_of}
 use Rattle.rv_book.specs.Logs.{logged}

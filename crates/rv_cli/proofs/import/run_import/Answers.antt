@@ -1,6 +1,6 @@
 use Rattle.std.proofs.Common.{ℕ, Contains, inl, inr, refl, sym, ◌∙◌, arith, subst, lit<}
 use Rattle.rv_keeper.specs.StoreLaws.{others_on}
-use Rattle.rv_desk.specs.Seated.{DeskTakes}
+use Rattle.rv_desk.specs.DeskStates.{DeskTakes}
 use Rattle.rv_cli.specs.Change.{change}
 use Rattle.rv_cli.specs.ImportPromise.{import_statuses}
 use Rattle.rv_cli.proofs.Imported.{has_imported, import_among, import_not_five, import_not_four, read_rose, read_still, refused_as, refused_other, refused_rose, refused_written, tells_read, tells_write, whole_steady, write_rose, write_still, written_seven}

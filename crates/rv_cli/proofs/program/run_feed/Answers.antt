@@ -5,7 +5,7 @@ use Rattle.rv_cli.proofs.Kept.{all_ask, as_of, feed_among, keeps, none_malformed
 use Rattle.rv_cli.proofs.Steady.{not_four, taken_up}
 use Rattle.rv_keeper.specs.StoreLaws.{others_on}
 use Rattle.std.proofs.Common.{inr, refl, sym, ◌∙◌, lit<}
-use Rattle.rv_desk.specs.Seated.{served}
+use Rattle.rv_desk.specs.DeskStates.{served}
 use Rattle.rv_cli.proofs.Ended.{completes}
 use Rattle.rv_cli.proofs.Sound.{feed_sound}
 use Rattle.rv_cli.proofs.Storing.{has_fed}

@@ -7,7 +7,7 @@ use Rattle.std.proofs.Common.{inr, ◌≡◌, ◌∙◌, ap, sym, refl, lit<}
 use Rattle.rv_cli.specs.Headline.{ReportsView, WritesWhole}
 use Rattle.rv_rows.specs.Held.{rows_in}
 use Rattle.rv_rows.specs.Sharing.{seen}
-use Rattle.rv_import.specs.Views.{view_text}
+use Rattle.rv_csv.specs.Views.{view_text}
 use Rattle.rv_cli.proofs.Reporting.{has_reported, if_ok, on_ok, reports_made}
 use Rattle.rv_cli.proofs.Storing.{refused_fails}
 use Rattle.rv_cli.proofs.reports.run_export.Goals as goal

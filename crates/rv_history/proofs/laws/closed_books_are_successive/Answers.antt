@@ -1,4 +1,4 @@
-use Rattle.rv_history.specs.Succession.{closed_books_are_successive}
+use Rattle.rv_history.specs.SuccessionLaws.{closed_books_are_successive}
 use Rattle.rv_history.proofs.laws.closed_books_are_successive.Goals as goal
 
 pub returns : goal.returns

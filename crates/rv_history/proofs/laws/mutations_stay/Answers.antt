@@ -1,4 +1,4 @@
-use Rattle.rv_history.specs.Succession.{mutations_stay}
+use Rattle.rv_history.specs.SuccessionLaws.{mutations_stay}
 use Rattle.rv_history.proofs.laws.mutations_stay.Goals as goal
 
 pub returns : goal.returns

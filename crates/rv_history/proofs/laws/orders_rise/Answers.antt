@@ -1,4 +1,4 @@
-use Rattle.rv_history.specs.LawfulBooks.{orders_rise}
+use Rattle.rv_history.specs.LawfulBookLaws.{orders_rise}
 use Rattle.rv_history.proofs.laws.orders_rise.Goals as goal
 
 pub returns : goal.returns

@@ -1,6 +1,6 @@
 use Rattle.std.proofs.Common.{◌≡◌, length, sym, arith}
 use Rattle.csv.specs.Records.{fields_of}
-use Rattle.rv_import.proofs.FieldLaws.{if_none, not_three, triple_is}
+use Rattle.rv_csv.proofs.FieldLaws.{if_none, not_three, triple_is}
 use Rattle.rv_import.proofs.import_calls.three_fields.Goals as goal
 
 pub returns-in_err-list-clause-none : goal.returns-in_err-list-clause-none

@@ -3,7 +3,8 @@ use Rattle.std.specs.Prelude.{◌||◌, drop}
 use Rattle.std.proofs.lemmas.List.{take_rest}
 use Rattle.std.specs.Float.{binary64, float_is_finite}
 use Rattle.fast_float.specs.Text.{Parts, scan, nearest}
-use Rattle.rv_json.specs.Numbers.{fits_below, signed_in_range}
+use Rattle.rv_json.specs.Numbers.{fits_below}
+use Rattle.rv_json.specs.NumberLaws.{signed_in_range}
 use Rattle.rv_json.proofs.numbers.is_in_range.Goals as goal
 
 pub returns-then-is_signed : goal.returns-then-is_signed

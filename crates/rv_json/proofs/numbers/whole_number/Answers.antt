@@ -1,7 +1,8 @@
 use Rattle.std.proofs.Common.{Some, None, ap, sym, ◌∙◌}
 use Rattle.std.specs.Prelude.{if◌then◌else◌}
 use Rattle.fast_float.specs.Text.{Parts, scan, digits_of}
-use Rattle.rv_json.specs.Numbers.{fits_whole, signed_is_not_whole, unsigned_is_whole, some_iff, whole_iff}
+use Rattle.rv_json.specs.Numbers.{fits_whole}
+use Rattle.rv_json.specs.NumberLaws.{signed_is_not_whole, unsigned_is_whole, some_iff, whole_iff}
 use Rattle.rv_json.proofs.numbers.whole_number.Goals as goal
 
 pub returns-then-is_signed : goal.returns-then-is_signed

@@ -9,4 +9,4 @@ use Rattle.rv_mutators.proofs.staging.stage.Goals as goal
 pub returns-clause-effect : goal.returns-clause-effect
 returns-clause-effect c version =
     let stored = c.args.tables.now.rows in
-    ap (λ (s : Staged). with_staged version s stored) c.in_ok-staged.ensures ∙ applied-changes version stored (effect (rows_in stored) c.args.user.now c.args.call.now) c.iter-in_order.ensures.order
+    ap (λ (s : Staged). with_staged version s stored) c.in_ok-staged.ensures ∙ applied-changes version stored (effect (rows_in stored) c.args.user.now c.args.call.now) c.fits.ensures

@@ -3,7 +3,7 @@ use Rattle.std.specs.Prelude.{not}
 use Rattle.std.specs.List.{filter}
 use Rattle.std.proofs.lemmas.List.{take_all}
 use Rattle.rv_base.specs.Sorted.{InOrder}
-use Rattle.rv_base.specs.Positions.{in_order-filter}
+use Rattle.rv_base.specs.PositionLaws.{in_order-filter}
 use Rattle.rv_history.specs.History.{is_among}
 use Rattle.rv_plain.proofs.history.others.Goals as goal
 

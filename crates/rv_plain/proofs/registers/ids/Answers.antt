@@ -1,7 +1,7 @@
 use Rattle.std.proofs.Common.{◌≡◌, ◌∙◌, ap, subst, sym, ℕ, List}
 use Rattle.std.specs.List.{filter_map}
 use Rattle.rv_base.specs.Sorted.{InOrder, sorted_by}
-use Rattle.rv_base.specs.Positions.{in_order-sorted}
+use Rattle.rv_base.specs.PositionLaws.{in_order-sorted}
 use Rattle.rv_book.specs.Book.{Book, client_in, clients_named, ids}
 use Rattle.rv_plain.proofs.Names.{name, id_keyed, if_ok_is, told-sorted}
 use Rattle.rv_plain.proofs.registers.ids.Goals as goal

@@ -2,7 +2,7 @@ use Rattle.std.proofs.Common.{rules}
 use Rattle.std.specs.Ordering.{nat_cmp}
 use Rattle.std.specs.Cmp.Lexicographic.{slice_cmp}
 use Rattle.std.proofs.lemmas.Fn.{always_returns_same}
-use Rattle.rv_base.specs.Positions.{settles}
+use Rattle.rv_base.specs.PositionLaws.{settles}
 use Rattle.rv_rows.specs.Keys.{row_text}
 use Rattle.rv_plain.proofs.rows.place.Goals as goal
 

@@ -2,7 +2,7 @@ use Rattle.std.proofs.Common.{ℕ, List}
 use Rattle.rv_keeper.specs.declared.cell.Cell.{Cell}
 use Rattle.rv_record.specs.CellTexts.{client_cell_on}
 use Rattle.rv_record.specs.CellReading.{ClientFits, client_in_cell}
-use Rattle.rv_record.proofs.Again.{client_again}
+use Rattle.rv_record.specs.AgainLaws.{client_again}
 use Rattle.rv_record.proofs.Settling.{not_found, other_found}
 use Rattle.rv_record.proofs.client_reading.client_on.Goals as goal
 

@@ -2,7 +2,7 @@ use Rattle.std.proofs.Common.{ℕ, List, Bool}
 use Rattle.rv_keeper.specs.declared.cell.Cell.{Cell}
 use Rattle.rv_record.specs.CellTexts.{group_cell_on}
 use Rattle.rv_record.specs.CellReading.{GroupFits, group_in_cell}
-use Rattle.rv_record.proofs.Again.{group_again}
+use Rattle.rv_record.specs.AgainLaws.{group_again}
 use Rattle.rv_record.proofs.Settling.{not_found, other_found}
 use Rattle.rv_record.proofs.client_reading.group_on.Goals as goal
 

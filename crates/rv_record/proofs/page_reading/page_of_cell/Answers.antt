@@ -1,6 +1,6 @@
 use Rattle.rv_record.specs.CellTexts.{page_cell}
 use Rattle.rv_record.specs.CellReading.{PageFits, page_in_cell}
-use Rattle.rv_record.proofs.Again.{page_again}
+use Rattle.rv_record.specs.AgainLaws.{page_again}
 use Rattle.rv_record.proofs.Settling.{not_found, other_found}
 use Rattle.rv_record.proofs.page_reading.page_of_cell.Goals as goal
 

@@ -1,5 +1,5 @@
 use Rattle.rv_json.specs.ValueData.{value_data}
-use Rattle.rv_record.proofs.Again.{exact_rows}
+use Rattle.rv_record.specs.AgainLaws.{exact_rows}
 use Rattle.rv_record.proofs.row_reading.row_of_value.Goals as goal
 
 pub returns : goal.returns

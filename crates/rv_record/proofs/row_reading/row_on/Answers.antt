@@ -3,7 +3,7 @@ use Rattle.rv_rows.specs.declared.row.Row.{Row}
 use Rattle.rv_keeper.specs.declared.cell.Cell.{Cell}
 use Rattle.rv_record.specs.CellTexts.{row_cell_on}
 use Rattle.rv_record.specs.RowReading.{RowFits, row_cell_in}
-use Rattle.rv_record.proofs.Again.{row_cell_again}
+use Rattle.rv_record.specs.AgainLaws.{row_cell_again}
 use Rattle.rv_record.proofs.Settling.{not_found, other_found}
 use Rattle.rv_record.proofs.row_reading.row_on.Goals as goal
 

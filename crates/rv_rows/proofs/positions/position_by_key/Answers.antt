@@ -1,4 +1,4 @@
-use Rattle.rv_pages.specs.Paging.{items, place}
+use Rattle.rv_chunks.specs.Chunking.{items, index_found}
 use Rattle.rv_rows.specs.Keys.{key_text}
 use Rattle.rv_rows.specs.Held.{stored_key}
 use Rattle.rv_rows.specs.Slots.{row_of, by_slot}
@@ -10,5 +10,5 @@ pub returns-clause-position : goal.returns-clause-position
 returns-clause-position c =
     let k = key_text (record { kind = c.args.kind; id = c.args.id.now }) in
     let slots = c.args.slots.now in
-    let order = items c.args.order.now.pages in
-    settled stored_key (row_of slots) (by_slot stored_key k slots) k order (place c.args.order.now.pages c.position.result) (in_slots stored_key k slots order c.requires.slots) c.requires.order c.position.ensures.bound c.position.ensures.position
+    let order = items c.args.order.now.chunks in
+    settled stored_key (row_of slots) (by_slot stored_key k slots) k order (index_found c.args.order.now.chunks c.position.result) (in_slots stored_key k slots order c.requires.slots) c.requires.order c.position.ensures.bound c.position.ensures.position

@@ -1,4 +1,4 @@
-use Rattle.rv_pages.specs.Paging.{items, place}
+use Rattle.rv_chunks.specs.Chunking.{items, index_found}
 use Rattle.rv_rows.specs.Filed.{filed_key, filed_text}
 use Rattle.rv_rows.specs.Slots.{row_of, by_slot}
 use Rattle.rv_rows.proofs.SlotLaws.{settled}
@@ -10,5 +10,5 @@ returns-clause-position c =
     let key = filed_key c.args.by in
     let k = filed_text c.args.by c.args.row.now in
     let slots = c.args.slots.now in
-    let order = items c.args.order.now.pages in
-    settled key (row_of slots) (by_slot key k slots) k order (place c.args.order.now.pages c.position.result) (in_slots key k slots order c.requires.slots) c.requires.order c.position.ensures.bound c.position.ensures.position
+    let order = items c.args.order.now.chunks in
+    settled key (row_of slots) (by_slot key k slots) k order (index_found c.args.order.now.chunks c.position.result) (in_slots key k slots order c.requires.slots) c.requires.order c.position.ensures.bound c.position.ensures.position

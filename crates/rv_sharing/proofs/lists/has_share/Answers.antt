@@ -1,6 +1,6 @@
 use Rattle.std.proofs.Common.{List, ap, sym, ◌∙◌, subst}
 use Rattle.std.specs.List.{list_any}
-use Rattle.rv_base.specs.Positions.{in_order-filter}
+use Rattle.rv_base.specs.PositionLaws.{in_order-filter}
 use Rattle.rv_rows.specs.Held.{Stored, AreRows, rows_in, stored_key}
 use Rattle.rv_rows.specs.Sharing.{belongs, shares}
 use Rattle.rv_sharing.proofs.ViewerLaws.{shares-named, shares-own, none_behind}

@@ -2,7 +2,7 @@ use Rattle.std.proofs.Common.{rules, ℕ, List}
 use Rattle.std.specs.Ordering.{nat_cmp}
 use Rattle.std.specs.Cmp.Lexicographic.{slice_cmp}
 use Rattle.std.proofs.lemmas.Fn.{always_returns_same}
-use Rattle.rv_base.specs.Positions.{settles}
+use Rattle.rv_base.specs.PositionLaws.{settles}
 use Rattle.rv_sharing.proofs.TextLaws.{text_key}
 use Rattle.rv_sharing.proofs.texts.position_of.Goals as goal
 

@@ -3,7 +3,7 @@ use Rattle.std.specs.List.{flat_map, AllByRecursion}
 use Rattle.std.proofs.lemmas.Result.{IfOk-weaker}
 use Rattle.rv_book.specs.declared.page.Page.{Page}
 use Rattle.rv_book.specs.Book.{Book}
-use Rattle.rv_opening.specs.PageCells.{page_cells}
+use Rattle.rv_record.specs.PageCells.{page_cells}
 use Rattle.rv_record.specs.CellTexts.{AreTexts}
 use Rattle.rv_store.specs.StoreCells.{entry_cells}
 use Rattle.rv_standby.specs.Shipping.{BookIsTexts, Ships, cell_line, page_lines}

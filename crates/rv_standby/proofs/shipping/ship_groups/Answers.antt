@@ -1,5 +1,5 @@
 use Rattle.std.proofs.Common.{arith}
-use Rattle.rv_opening.specs.PageCells.{group_parts}
+use Rattle.rv_record.specs.PageCells.{group_parts}
 use Rattle.rv_record.specs.CellTexts.{page_group_cell}
 use Rattle.rv_standby.proofs.Shipped.{all_shipped, all_texts, fails_steadily, line_fails, none_shipped, one_shipped, one_text, piece_at, pieces_end}
 use Rattle.rv_standby.proofs.shipping.ship_groups.Goals as goal

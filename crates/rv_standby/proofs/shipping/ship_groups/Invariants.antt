@@ -1,6 +1,6 @@
 use Rattle.std.proofs.Common.{take}
 use Rattle.std.specs.List.{AllByRecursion}
-use Rattle.rv_opening.specs.PageCells.{group_parts}
+use Rattle.rv_record.specs.PageCells.{group_parts}
 use Rattle.rv_record.specs.CellTexts.{AreTexts}
 use Rattle.rv_standby.proofs.Shipped.{Shipped}
 use Rattle.rv_standby.proofs.shipping.ship_groups.Given as goal

@@ -5,15 +5,15 @@ use Rattle.rv_store.proofs.Comparisons.{each_more, each_fails, each_ends, left_g
 use Rattle.rv_store.proofs.comparing.meet_clients.Goals as goal
 
 pub returns-in_default : goal.returns-in_default
-returns-in_default c = each_ends (λ t. client_cell t.0 t.1 t.2) _ _ _ _ (none_left (clients_of c.args.book.now.book) c.loop-index.index c.in_default.ensures.told) c.loop-index.invariant.met
+returns-in_default c = each_ends (λ t. client_cell t.0 t.1 t.2) _ _ _ _ (none_left (clients_of c.args.book.now.book) c.loop-index.index c.in_default.ensures.info) c.loop-index.invariant.met
 
 pub returns-in_err-rest : goal.returns-in_err-rest
 returns-in_err-rest c =
-    each_fails (λ t. client_cell t.0 t.1 t.2) _ _ _ _ _ _ _ _ _ _ c.from_residual-in_err-rest.ensures.1 (left_got (clients_of c.args.book.now.book) c.loop-index.index _ c.in-Some.ensures.told) c.in_ok-own.ensures.cell c.in_err-rest.ensures c.loop-index.invariant.met
+    each_fails (λ t. client_cell t.0 t.1 t.2) _ _ _ _ _ _ _ _ _ _ c.from_residual-in_err-rest.ensures.1 (left_got (clients_of c.args.book.now.book) c.loop-index.index _ c.in-Some.ensures.info) c.in_ok-own.ensures.cell c.in_err-rest.ensures c.loop-index.invariant.met
 
 pub loop-index-preserved : goal.loop-index-preserved
 loop-index-preserved c = record {
-  met = each_more (λ t. client_cell t.0 t.1 t.2) _ _ _ _ _ _ _ _ (left_got (clients_of c.args.book.now.book) c.loop-index.index _ c.in-Some.ensures.told) c.in_ok-own.ensures.cell c.in_ok-rest.ensures c.loop-index.invariant.met;
+  met = each_more (λ t. client_cell t.0 t.1 t.2) _ _ _ _ _ _ _ _ (left_got (clients_of c.args.book.now.book) c.loop-index.index _ c.in-Some.ensures.info) c.in_ok-own.ensures.cell c.in_ok-rest.ensures c.loop-index.invariant.met;
 }
 
 pub returns : goal.returns

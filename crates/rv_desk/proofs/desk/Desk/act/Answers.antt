@@ -12,7 +12,7 @@ use Rattle.rv_state.specs.Ready.{next_of}
 use Rattle.rv_wire.specs.Answers.{pull_json}
 use Rattle.rv_doubt.specs.Keeping.{IsKept}
 use Rattle.rv_doubt.specs.Kept.{parts_served}
-use Rattle.rv_desk.specs.Seated.{Seated, served}
+use Rattle.rv_desk.specs.DeskStates.{DeskState, served}
 use Rattle.rv_desk.specs.Stepping.{HasStepped}
 use Rattle.rv_desk.proofs.Settled.{in_step_after, kept_after, kept_ok, not_kept}
 use Rattle.rv_desk.proofs.desk.Desk.act.Goals.{in-Ok, in-Err}
@@ -20,7 +20,7 @@ use Rattle.rv_desk.proofs.desk.Desk.act.Goals as goal
 
 pub keep-requires-clause-in_step : goal.keep-requires-clause-in_step
 keep-requires-clause-in_step g c =
-    let none = ap (λ (desk : Seated g.row.K.Denot). desk.doubt) c.self.view_is ∙ c.requires.settled in
+    let none = ap (λ (desk : DeskState g.row.K.Denot). desk.doubt) c.self.view_is ∙ c.requires.settled in
     in_step_after c.self.inside.state c.prepare_act.new.self c.self.inside.doubt (g.K.Keeper.tells c.self.inside.keeper) (g.K.Keeper.holds c.self.inside.keeper) none c.prepare_act.ensures.book c.self.invariant.0
 
 pub returns-clause-stepped : goal.returns-clause-stepped

@@ -1,6 +1,6 @@
 use Rattle.std.proofs.Common.{rules, ◌≡◌, arith}
 use Rattle.rv_history.specs.Machine.{next_order}
-use Rattle.rv_history.specs.Based.{may_look}
+use Rattle.rv_history.specs.BasedLaws.{may_look}
 use Rattle.rv_desk.proofs.desk.Desk.answer_admitted.Goals as goal
 
 pub look-requires-clause-lawful : goal.look-requires-clause-lawful

@@ -6,7 +6,7 @@ use Rattle.rv_store.specs.Opening.{Restores}
 use Rattle.rv_desk.specs.declared.open_fault.OpenFault.TheVariants.{Damaged}
 use Rattle.rv_store.specs.Opening.{IsDamaged, IsSoundBook, MayOpen}
 use Rattle.rv_desk.specs.Opened.{OpensAgain, StaysAsItWas}
-use Rattle.rv_desk.specs.Seated.{Seated}
+use Rattle.rv_desk.specs.DeskStates.{DeskState}
 use Rattle.rv_desk.proofs.Reopening.{settles_so, undamaged}
 use Rattle.rv_desk.proofs.desk.Desk.reopen.Goals as goal
 
@@ -25,8 +25,8 @@ returns-in-Ok-restore g c =
     let limit : c.limit-limit.result ≡ state.limit = c.limit-limit.ensures ∙ c.book.ensures.limit in
     let opens = subst (λ (n : ℕ). MayOpen n c.in-Ok-restore.state.book c.in-Ok.loaded) limit c.in-Ok-restore.ensures.0 in
     let sound : IsSoundBook state.limit state.book = record { lawful = c.book.ensures.lawful; within = c.book.ensures.within.0; fits = c.book.ensures.fits; parts = c.book.ensures.parts } in
-    let new : Seated g.row.K.Denot = record { book = c.in-Ok-restore.state.book; limit = c.in-Ok-restore.state.limit; doubt = None; keeper = c.load.new.self } in
-    subst (λ (old : Seated g.row.K.Denot). OpensAgain g.K.Keeper old new) c.self.view_is (record {
+    let new : DeskState g.row.K.Denot = record { book = c.in-Ok-restore.state.book; limit = c.in-Ok-restore.state.limit; doubt = None; keeper = c.load.new.self } in
+    subst (λ (old : DeskState g.row.K.Denot). OpensAgain g.K.Keeper old new) c.self.view_is (record {
       opens = record {
         loaded = c.in-Ok.loaded;
         loads = c.in-Ok.ensures.loads;
@@ -51,8 +51,8 @@ returns-in-Err-BadCell g c =
     let restored : IsDamaged c.limit-limit.result c.in-Ok.loaded c.in-Err-BadCell.damage = subst (λ (fault : CellFault). Restores c.limit-limit.result c.in-Ok.loaded (Err fault)) c.in-Err-BadCell.field-0-is c.in-Err-BadCell.ensures in
     let damaged = subst (λ (n : ℕ). IsDamaged n c.in-Ok.loaded c.in-Err-BadCell.damage) limit restored in
     let sound : IsSoundBook state.limit state.book = record { lawful = c.book.ensures.lawful; within = c.book.ensures.within.0; fits = c.book.ensures.fits; parts = c.book.ensures.parts } in
-    let now : Seated g.row.K.Denot = record { book = state.book; limit = state.limit; doubt = option_map next_of c.self.inside.doubt; keeper = c.load.new.self } in
-    subst (λ (old : Seated g.row.K.Denot). StaysAsItWas g.K.Keeper old (Damaged c.in-Err-BadCell.damage) now) c.self.view_is (record {
+    let now : DeskState g.row.K.Denot = record { book = state.book; limit = state.limit; doubt = option_map next_of c.self.inside.doubt; keeper = c.load.new.self } in
+    subst (λ (old : DeskState g.row.K.Denot). StaysAsItWas g.K.Keeper old (Damaged c.in-Err-BadCell.damage) now) c.self.view_is (record {
       why = record {
         loaded = c.in-Ok.loaded;
         loads = c.in-Ok.ensures.loads;

@@ -2,7 +2,7 @@ use Rattle.std.proofs.Common.{arith}
 use Rattle.rv_turns.specs.Asks.{ask_of}
 use Rattle.rv_turns.specs.Outcomes.{trouble_of}
 use Rattle.rv_wire.specs.Answers.{pull_json}
-use Rattle.rv_desk.specs.Seated.{served}
+use Rattle.rv_desk.specs.DeskStates.{served}
 use Rattle.rv_desk.specs.TurnLaws.{assures_on, turn_after, turn_unsettled}
 use Rattle.rv_desk.proofs.desk.Desk.take_counted.Goals as goal
 

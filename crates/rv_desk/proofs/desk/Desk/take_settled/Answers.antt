@@ -1,7 +1,7 @@
 use Rattle.std.proofs.Common.{◌≡◌}
 use Rattle.rv_base.specs.declared.fault.Fault.TheVariants.{Failed, Memory}
 use Rattle.rv_turns.specs.Asks.{ask_of}
-use Rattle.rv_desk.specs.Seated.{served}
+use Rattle.rv_desk.specs.DeskStates.{served}
 use Rattle.rv_desk.proofs.Settled.{turn_failed, turn_refused, turn_stepped}
 use Rattle.rv_desk.proofs.desk.Desk.take_settled.Goals as goal
 
@@ -9,7 +9,7 @@ pub returns-in-Ok-clause-turn : goal.returns-in-Ok-clause-turn
 returns-in-Ok-clause-turn g c = record {
   turn = turn_stepped (ask_of c.args.asked) c.in-Ok.outcome (served g.K.Keeper.faults c.args.self.now) (served g.K.Keeper.faults c.step-stepped.new.self) c.in-Ok.ensures.stepped;
   assured = rw c.in-Ok.ensures.stepped.stepped.1 c.in-Ok.ensures.assured;
-  kept = record { held = c.book-book.ensures.held; left = c.book-book.ensures.left };
+  kept = record { held = c.book.ensures.held; left = c.book.ensures.left };
 }
 
 pub returns-in-Err-Failed-clause-turn : goal.returns-in-Err-Failed-clause-turn
@@ -20,7 +20,7 @@ returns-in-Err-Failed-clause-turn g c =
     record {
       turn = turn_failed (ask_of c.args.asked) (served g.K.Keeper.faults c.args.self.now) (served g.K.Keeper.faults c.step-stepped.new.self) (rw fault at stepped);
       assured = rw fault at assured;
-      kept = record { held = c.book-book.ensures.held; left = c.book-book.ensures.left };
+      kept = record { held = c.book.ensures.held; left = c.book.ensures.left };
     }
 
 pub returns-in-Err-Memory-clause-turn : goal.returns-in-Err-Memory-clause-turn
@@ -31,5 +31,5 @@ returns-in-Err-Memory-clause-turn g c =
     record {
       turn = turn_refused (ask_of c.args.asked) (served g.K.Keeper.faults c.args.self.now) (served g.K.Keeper.faults c.step-stepped.new.self) (rw fault at stepped);
       assured = rw fault at assured;
-      kept = record { held = c.book-book.ensures.held; left = c.book-book.ensures.left };
+      kept = record { held = c.book.ensures.held; left = c.book.ensures.left };
     }

@@ -1,4 +1,4 @@
-use Rattle.rv_base.specs.Arranged.{sorted-in_order}
+use Rattle.rv_base.specs.ArrangedLaws.{sorted-in_order}
 use Rattle.rv_keeper.specs.Cells.{cell_key}
 use Rattle.rv_keeper.proofs.shelves.Shelves.from_vec.Goals as goal
 

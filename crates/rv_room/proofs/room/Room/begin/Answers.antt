@@ -1,5 +1,5 @@
 use Rattle.std.proofs.Common.{◌≡◌, ℕ, List, ◌∷◌, Option, Some, ap, sym, ◌∙◌, subst}
-use Rattle.rv_desk.specs.Seated.{Seated}
+use Rattle.rv_desk.specs.DeskStates.{DeskState}
 use Rattle.rv_room.specs.declared.view.SeatView.{SeatView}
 use Rattle.rv_room.specs.Following.{FollowsAll}
 use Rattle.rv_room.specs.Plays.{Knows, carried}
@@ -13,7 +13,7 @@ take_out-requires-clause-out g c = let t = c.wait_for.ensures.turn in let w = c.
 
 pub returns-clause-of : goal.returns-clause-of
 returns-clause-of g c =
-    let X : Type 0 = Seated g.row.K.Denot in
+    let X : Type 0 = DeskState g.row.K.Denot in
     let M : Type 0 = Knows g.row.K.Denot in
     let t = c.wait_for.ensures.turn in
     let w = c.take_ticket-ticket.ensures.waits in
@@ -23,7 +23,7 @@ returns-clause-of g c =
 
 pub returns-clause-later : goal.returns-clause-later
 returns-clause-later g c =
-    let X : Type 0 = Seated g.row.K.Denot in
+    let X : Type 0 = DeskState g.row.K.Denot in
     let M : Type 0 = Knows g.row.K.Denot in
     let t = c.wait_for.ensures.turn in
     let w = c.take_ticket-ticket.ensures.waits in

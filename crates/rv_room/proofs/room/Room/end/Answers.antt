@@ -1,10 +1,10 @@
 use Rattle.std.proofs.Common.{◌≡◌, [], ◌∷◌, Some, ap, sym, ◌∙◌, subst, arith}
 use Rattle.std.specs.Prelude.{IfSome}
 use Rattle.rv_book.specs.Book.{Book, size, with_entry}
-use Rattle.rv_desk.specs.Seated.{Seated}
+use Rattle.rv_desk.specs.DeskStates.{DeskState}
 use Rattle.rv_history.specs.Served.{Settles}
 use Rattle.rv_room.specs.declared.view.SeatView.{SeatView}
-use Rattle.rv_history.specs.TurnLaws.{Adds}
+use Rattle.rv_history.specs.Machine.{Adds}
 use Rattle.rv_room.specs.Following.{KeeperFollows}
 use Rattle.rv_room.specs.Plays.{Knows}
 use Rattle.rv_room.specs.Rule.{IsOf}
@@ -15,7 +15,7 @@ use Rattle.rv_room.proofs.room.Room.end.Goals as goal
 pub count_settled_if-requires-clause-doubt : goal.count_settled_if-requires-clause-doubt
 count_settled_if-requires-clause-doubt g c came =
     let M : Type 0 = Knows g.row.K.Denot in
-    let d : Seated g.row.K.Denot = c.args.desk in
+    let d : DeskState g.row.K.Denot = c.args.desk in
     let v : SeatView g.row.K.Denot = c.args.token.now.me.0 in
     let s : Book = c.requires.settled.0 in
     let settled : c.args.settled ≡ size s = c.requires.settled.1 in
@@ -30,7 +30,7 @@ count_settled_if-requires-clause-doubt g c came =
 pub count_made_if-requires-clause-grown : goal.count_made_if-requires-clause-grown
 count_made_if-requires-clause-grown g c made =
     let M : Type 0 = Knows g.row.K.Denot in
-    let d : Seated g.row.K.Denot = c.args.desk in
+    let d : DeskState g.row.K.Denot = c.args.desk in
     let v : SeatView g.row.K.Denot = c.args.token.now.me.0 in
     let s : Book = c.requires.settled.0 in
     let settled : c.args.settled ≡ size s = c.requires.settled.1 in
@@ -48,7 +48,7 @@ count_made_if-requires-clause-grown g c made =
 pub note_settled-requires-clause-carries : goal.note_settled-requires-clause-carries
 note_settled-requires-clause-carries g c =
     let M : Type 0 = Knows g.row.K.Denot in
-    let d : Seated g.row.K.Denot = c.args.desk in
+    let d : DeskState g.row.K.Denot = c.args.desk in
     let v : SeatView g.row.K.Denot = c.args.token.now.me.0 in
     let s : Book = c.requires.settled.0 in
     let settled : c.args.settled ≡ size s = c.requires.settled.1 in
@@ -66,7 +66,7 @@ note_settled-requires-clause-carries g c =
 pub pass-requires-clause-home : goal.pass-requires-clause-home
 pass-requires-clause-home g c =
     let M : Type 0 = Knows g.row.K.Denot in
-    let d : Seated g.row.K.Denot = c.args.desk in
+    let d : DeskState g.row.K.Denot = c.args.desk in
     let v : SeatView g.row.K.Denot = c.args.token.now.me.0 in
     let s : Book = c.requires.settled.0 in
     let settled : c.args.settled ≡ size s = c.requires.settled.1 in
@@ -94,7 +94,7 @@ pass-requires-clause-home g c =
 pub returns-clause-ended : goal.returns-clause-ended
 returns-clause-ended g c s settled ways adds =
     let M : Type 0 = Knows g.row.K.Denot in
-    let d : Seated g.row.K.Denot = c.args.desk in
+    let d : DeskState g.row.K.Denot = c.args.desk in
     let v : SeatView g.row.K.Denot = c.args.token.now.me.0 in
     let put : c.put_home.new.token.me ≡ (v, (0, Some d) ∷ []) = c.put_home.ensures.desk in
     let now : c.args.now ≡ size d.book = c.requires.now in

@@ -1,6 +1,6 @@
 use Rattle.std.proofs.Common.{◌≡◌, [], ◌∷◌, Some, ap, sym, ◌∙◌, subst}
 use Rattle.std.specs.Prelude.{IfSome}
-use Rattle.rv_desk.specs.Seated.{Seated}
+use Rattle.rv_desk.specs.DeskStates.{DeskState}
 use Rattle.rv_room.specs.declared.view.SeatView.{SeatView}
 use Rattle.rv_room.specs.Following.{KeeperFollows}
 use Rattle.rv_room.specs.Plays.{Knows}
@@ -17,7 +17,7 @@ note_keeper-requires-clause-carries g c =
 pub pass-requires-clause-home : goal.pass-requires-clause-home
 pass-requires-clause-home g c =
     let M : Type 0 = Knows g.row.K.Denot in
-    let d : Seated g.row.K.Denot = c.args.desk in
+    let d : DeskState g.row.K.Denot = c.args.desk in
     let v : SeatView g.row.K.Denot = c.args.token.now.me.0 in
     let put : c.put_home.new.token.me ≡ (v, (0, Some d) ∷ []) = c.put_home.ensures.desk in
     let at : c.note_keeper.new.token.me ≡ (with_keeper v (Some d.keeper), (0, Some d) ∷ []) = c.note_keeper.ensures.noted d (ap (λ (m : M). m.1) put) ∙ (λ i. (with_keeper (put i).0 (Some d.keeper), (put i).1)) in (

@@ -1,5 +1,5 @@
 use Rattle.std.proofs.Common.{refl, ap}
-use Rattle.rv_room.specs.Following.{follows_same}
+use Rattle.rv_room.specs.FollowingLaws.{follows_same}
 use Rattle.rv_room.specs.Plays.{Knows}
 use Rattle.rv_room.proofs.Ending.{taken_of, taken_follows, marked_turn}
 use Rattle.rv_room.proofs.room.Room.turn_mark.Goals as goal

@@ -1,12 +1,12 @@
 use Rattle.std.proofs.Common.{◌≡◌, ◌<◌, ◌^◌, [], None, ap, ◌∙◌, sym, subst, arith}
 use Rattle.rv_book.specs.Book.{size}
-use Rattle.rv_desk.specs.Seated.{served}
+use Rattle.rv_desk.specs.DeskStates.{served}
 use Rattle.rv_history.specs.Served.{IsNoClosing, Settles}
 use Rattle.rv_history.specs.TurnLaws.{turn_no_closing}
 use Rattle.rv_turns.specs.Asks.{ask_of}
 use Rattle.rv_wire.specs.Answers.{pull_json}
 use Rattle.rv_room.specs.Ends.{end_view}
-use Rattle.rv_room.specs.Following.{follows_on}
+use Rattle.rv_room.specs.FollowingLaws.{follows_on}
 use Rattle.rv_room.specs.Plays.{Knows}
 use Rattle.rv_room.proofs.Ending.{goes_with, turn_adds, taken_entry, taken_of, taken_follows, taken_settles, ended_settles, ended_within, held_within, settled_more}
 use Rattle.rv_room.proofs.room.Room.turned_counted.Goals as goal

@@ -1,6 +1,6 @@
 use Rattle.std.proofs.Common.{◌≡◌, ◌<◌, ℕ, List, ◌∷◌, length, sym, ap, ◌∙◌, subst, arith}
 use Rattle.std.specs.List.{filter}
-use Rattle.rv_pages.specs.Paging.{items}
+use Rattle.rv_chunks.specs.Chunking.{items}
 use Rattle.rv_rows.specs.Held.{Stored, rows_in}
 use Rattle.rv_rows.specs.declared.filing.Filing.TheVariants as filings
 use Rattle.rv_rows.specs.Filed.{sort_of}
@@ -20,7 +20,7 @@ first_slot list slots order found s rest all is first = (subst (AreSlots (length
 pub index-requires : goal.index-requires
 index-requires c =
     let inside = c.self.inside in
-    let order = items inside.by_sort.pages in
+    let order = items inside.by_sort.chunks in
     let is = found_in c.args.list.now c.deref.result.now inside.slots.items order c.slots_under.result c.slots_under.ensures c.deref.ensures.value in
     let low : c.in-Some.slot.now < length inside.slots.items = first_slot c.args.list.now inside.slots.items order c.slots_under.result c.in-Some.slot.now c.next.new.self c.self.invariant.0.sorts.in_slots is c.in-Some.ensures.steps in
     omega (arith, inside.slots.ok.0)
@@ -28,18 +28,18 @@ index-requires c =
 pub returns-in-Some : goal.returns-in-Some
 returns-in-Some c =
     let inside = c.self.inside in
-    let order = items inside.by_sort.pages in
+    let order = items inside.by_sort.chunks in
     let is = found_in c.args.list.now c.deref.result.now inside.slots.items order c.slots_under.result c.slots_under.ensures c.deref.ensures.value in
     let low = first_slot c.args.list.now inside.slots.items order c.slots_under.result c.in-Some.slot.now c.next.new.self c.self.invariant.0.sorts.in_slots is c.in-Some.ensures.steps in
     c.sort.ensures
     ∙ ap (λ (s : Stored). sort_of s.0) (sym (read_at inside.slots.items c.in-Some.slot.now c.index.result.now no_row low c.index.ensures))
-    ∙ greatest_first inside.slots.items (items inside.by_key.pages) order c.in-Some.slot.now c.next.new.self c.args.list.now c.self.invariant.0.sorts (is ∙ c.in-Some.ensures.steps)
+    ∙ greatest_first inside.slots.items (items inside.by_key.chunks) order c.in-Some.slot.now c.next.new.self c.args.list.now c.self.invariant.0.sorts (is ∙ c.in-Some.ensures.steps)
     ∙ ap (λ (v : Slotted). greatest_sort c.args.list.now (rows_in (rows_of v))) c.self.view_is
 
 pub returns-in-None : goal.returns-in-None
 returns-in-None c =
     let inside = c.self.inside in
-    let order = items inside.by_sort.pages in
+    let order = items inside.by_sort.chunks in
     let is = found_in c.args.list.now c.deref.result.now inside.slots.items order c.slots_under.result c.slots_under.ensures c.deref.ensures.value in
-    greatest_none inside.slots.items (items inside.by_key.pages) order c.args.list.now c.self.invariant.0.sorts (is ∙ c.in-None.ensures.steps.0)
+    greatest_none inside.slots.items (items inside.by_key.chunks) order c.args.list.now c.self.invariant.0.sorts (is ∙ c.in-None.ensures.steps.0)
     ∙ ap (λ (v : Slotted). greatest_sort c.args.list.now (rows_in (rows_of v))) c.self.view_is

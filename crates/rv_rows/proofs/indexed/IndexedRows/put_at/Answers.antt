@@ -1,7 +1,7 @@
 use Rattle.std.proofs.Common.{◌≡◌, List, None, ap, ◌∙◌, refl, subst, sym, arith, length}
 use Rattle.std.specs.List.{insert}
 use Rattle.rv_base.specs.Sorted.{find_by, InOrder}
-use Rattle.rv_pages.specs.Paging.{items, index_of}
+use Rattle.rv_chunks.specs.Chunking.{items, index_of}
 use Rattle.rv_rows.specs.Keys.{row_text}
 use Rattle.rv_rows.specs.Held.{Stored, stored_key, put, AreRows}
 use Rattle.rv_rows.specs.Filed.{filed_key}
@@ -14,19 +14,19 @@ pub gap_filed-in_list-requires-clause-absent : goal.gap_filed-in_list-requires-c
 gap_filed-in_list-requires-clause-absent c =
     let inside = c.self.inside in
     let none = subst (λ (v : Slotted). find_by stored_key (row_text c.args.row) (rows_of v) ≡ None) (sym c.self.view_is) c.requires.position.absent in
-    rw c.deref.ensures.value (absent_too filings.List inside.slots.items (items inside.by_key.pages) (items inside.by_list.pages) c.args.row c.self.invariant.0.key_order c.self.invariant.0.lists none)
+    rw c.deref.ensures.value (absent_too filings.List inside.slots.items (items inside.by_key.chunks) (items inside.by_list.chunks) c.args.row c.self.invariant.0.key_order c.self.invariant.0.lists none)
 
 pub gap_filed-of_user-requires-clause-absent : goal.gap_filed-of_user-requires-clause-absent
 gap_filed-of_user-requires-clause-absent c =
     let inside = c.self.inside in
     let none = subst (λ (v : Slotted). find_by stored_key (row_text c.args.row) (rows_of v) ≡ None) (sym c.self.view_is) c.requires.position.absent in
-    rw c.deref-2.ensures.value (absent_too filings.User inside.slots.items (items inside.by_key.pages) (items inside.by_user.pages) c.args.row c.self.invariant.0.key_order c.self.invariant.0.users none)
+    rw c.deref-2.ensures.value (absent_too filings.User inside.slots.items (items inside.by_key.chunks) (items inside.by_user.chunks) c.args.row c.self.invariant.0.key_order c.self.invariant.0.users none)
 
 pub gap_filed-of_sort-requires-clause-absent : goal.gap_filed-of_sort-requires-clause-absent
 gap_filed-of_sort-requires-clause-absent c =
     let inside = c.self.inside in
     let none = subst (λ (v : Slotted). find_by stored_key (row_text c.args.row) (rows_of v) ≡ None) (sym c.self.view_is) c.requires.position.absent in
-    rw c.deref-3.ensures.value (absent_too filings.Sort inside.slots.items (items inside.by_key.pages) (items inside.by_sort.pages) c.args.row c.self.invariant.0.key_order c.self.invariant.0.sorts none)
+    rw c.deref-3.ensures.value (absent_too filings.Sort inside.slots.items (items inside.by_key.chunks) (items inside.by_sort.chunks) c.args.row c.self.invariant.0.key_order c.self.invariant.0.sorts none)
 
 pub invariant_of-self : goal.invariant_of-self
 invariant_of-self c =
@@ -34,19 +34,19 @@ invariant_of-self c =
     let x : Stored = (c.args.row, c.args.version) in
     let room = ap (λ (v : Slotted). v.spare) c.self.view_is in
     let slots = inside.slots.items in
-    let i = index_of inside.by_key.pages c.args.at in
-    let j = index_of inside.by_list.pages c.gap_filed-in_list.result in
-    let k = index_of inside.by_user.pages c.gap_filed-of_user.result in
-    let l = index_of inside.by_sort.pages c.gap_filed-of_sort.result in
+    let i = index_of inside.by_key.chunks c.args.at in
+    let j = index_of inside.by_list.chunks c.gap_filed-in_list.result in
+    let k = index_of inside.by_user.chunks c.gap_filed-of_user.result in
+    let l = index_of inside.by_sort.chunks c.gap_filed-of_sort.result in
     let last : c.len-slot.result ≡ length slots = omega (arith, inside.slots.ok.0) in
-    let sorted : AreRows (insert (standing slots (items inside.by_key.pages)) i x) = subst (λ (v : Slotted). AreRows (insert (rows_of v) (index_of v.by_key c.args.at) x)) (sym c.self.view_is) (c.requires.position.inserted_order x refl) in
-    let listed : InOrder (filed_key filings.List) (insert (standing slots (items inside.by_list.pages)) j x) =
-    subst (λ (t : List Stored). InOrder (filed_key filings.List) (insert (standing t (items inside.by_list.pages)) j x)) c.deref.ensures.value (c.gap_filed-in_list.ensures.position.inserted_order x refl) in
-    let named : InOrder (filed_key filings.User) (insert (standing slots (items inside.by_user.pages)) k x) =
-    subst (λ (t : List Stored). InOrder (filed_key filings.User) (insert (standing t (items inside.by_user.pages)) k x)) c.deref-2.ensures.value (c.gap_filed-of_user.ensures.position.inserted_order x refl) in
-    let ranked : InOrder (filed_key filings.Sort) (insert (standing slots (items inside.by_sort.pages)) l x) =
-    subst (λ (t : List Stored). InOrder (filed_key filings.Sort) (insert (standing t (items inside.by_sort.pages)) l x)) c.deref-3.ensures.value (c.gap_filed-of_sort.ensures.position.inserted_order x refl) in (
-      pushed slots c.push.new.slots.items (items inside.by_key.pages) (items c.insert.new.self.pages) (items inside.by_list.pages) (items c.insert-2.new.self.pages) (items inside.by_user.pages) (items c.insert-3.new.self.pages) (items inside.by_sort.pages) (items c.insert-4.new.self.pages)
+    let sorted : AreRows (insert (standing slots (items inside.by_key.chunks)) i x) = subst (λ (v : Slotted). AreRows (insert (rows_of v) (index_of v.by_key c.args.at) x)) (sym c.self.view_is) (c.requires.position.inserted_order x refl) in
+    let listed : InOrder (filed_key filings.List) (insert (standing slots (items inside.by_list.chunks)) j x) =
+    subst (λ (t : List Stored). InOrder (filed_key filings.List) (insert (standing t (items inside.by_list.chunks)) j x)) c.deref.ensures.value (c.gap_filed-in_list.ensures.position.inserted_order x refl) in
+    let named : InOrder (filed_key filings.User) (insert (standing slots (items inside.by_user.chunks)) k x) =
+    subst (λ (t : List Stored). InOrder (filed_key filings.User) (insert (standing t (items inside.by_user.chunks)) k x)) c.deref-2.ensures.value (c.gap_filed-of_user.ensures.position.inserted_order x refl) in
+    let ranked : InOrder (filed_key filings.Sort) (insert (standing slots (items inside.by_sort.chunks)) l x) =
+    subst (λ (t : List Stored). InOrder (filed_key filings.Sort) (insert (standing t (items inside.by_sort.chunks)) l x)) c.deref-3.ensures.value (c.gap_filed-of_sort.ensures.position.inserted_order x refl) in (
+      pushed slots c.push.new.slots.items (items inside.by_key.chunks) (items c.insert.new.self.chunks) (items inside.by_list.chunks) (items c.insert-2.new.self.chunks) (items inside.by_user.chunks) (items c.insert-3.new.self.chunks) (items inside.by_sort.chunks) (items c.insert-4.new.self.chunks)
           x i j k l c.len-slot.result c.self.invariant.0 sorted listed named ranked c.push.ensures.rows last c.insert.ensures.items c.insert-2.ensures.items c.insert-3.ensures.items c.insert-4.ensures.items,
       record {
         slot_space = omega arith;
@@ -63,8 +63,8 @@ returns-clause-rows c =
     let inside = c.self.inside in
     let x : Stored = (c.args.row, c.args.version) in
     let slots = inside.slots.items in
-    let i = index_of inside.by_key.pages c.args.at in
+    let i = index_of inside.by_key.chunks c.args.at in
     let last : c.len-slot.result ≡ length slots = omega (arith, inside.slots.ok.0) in
-    let puts : put x (standing slots (items inside.by_key.pages)) ≡ insert (standing slots (items inside.by_key.pages)) i x = subst (λ (v : Slotted). put x (rows_of v) ≡ insert (rows_of v) (index_of v.by_key c.args.at) x) (sym c.self.view_is) (c.requires.position.inserted x refl) in
+    let puts : put x (standing slots (items inside.by_key.chunks)) ≡ insert (standing slots (items inside.by_key.chunks)) i x = subst (λ (v : Slotted). put x (rows_of v) ≡ insert (rows_of v) (index_of v.by_key c.args.at) x) (sym c.self.view_is) (c.requires.position.inserted x refl) in
     rw (c.push.ensures.rows, c.insert.ensures.items, last)
-    (standing_new slots x (items inside.by_key.pages) i c.self.invariant.0.key_slots ∙ sym puts ∙ ap (λ (v : Slotted). put x (rows_of v)) c.self.view_is)
+    (standing_new slots x (items inside.by_key.chunks) i c.self.invariant.0.key_slots ∙ sym puts ∙ ap (λ (v : Slotted). put x (rows_of v)) c.self.view_is)

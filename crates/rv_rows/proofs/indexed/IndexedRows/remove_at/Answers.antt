@@ -1,8 +1,8 @@
 use Rattle.std.proofs.Common.{◌≡◌, ◌-◌, ◌<◌, List, length, sym, ap, ◌∙◌, subst, arith}
 use Rattle.std.specs.List.{remove}
 use Rattle.rv_base.specs.Sorted.{IsPositionOf}
-use Rattle.rv_pages.specs.Paging.{items, index_of, place, IsItem}
-use Rattle.rv_pages.specs.PlaceLaws.{item_in_range}
+use Rattle.rv_chunks.specs.Chunking.{items, index_of, index_found, IsItem}
+use Rattle.rv_chunks.specs.IndexLaws.{item_in_range}
 use Rattle.rv_rows.specs.Keys.{key_text}
 use Rattle.rv_rows.specs.Held.{Stored, stored_key}
 use Rattle.rv_rows.specs.Filed.{filed_text, filed_key}
@@ -13,9 +13,9 @@ use Rattle.rv_rows.proofs.indexed.IndexedRows.remove_at.Goals as goal
 
 pub position_by_slot-in_list-requires-clause-held : goal.position_by_slot-in_list-requires-clause-held
 position_by_slot-in_list-requires-clause-held c =
-    let pages = c.self.inside.by_key.pages in
-    let lt = item_in_range pages c.args.at (subst (λ (v : Slotted). IsItem v.by_key c.args.at) (sym c.self.view_is) c.requires) in
-    held_at (items pages) (items c.self.inside.by_list.pages) (index_of pages c.args.at) c.get-slot.result.now c.self.invariant.0.lists.same lt (c.get-slot.ensures c.get-slot.result.now)
+    let chunks = c.self.inside.by_key.chunks in
+    let lt = item_in_range chunks c.args.at (subst (λ (v : Slotted). IsItem v.by_key c.args.at) (sym c.self.view_is) c.requires) in
+    held_at (items chunks) (items c.self.inside.by_list.chunks) (index_of chunks c.args.at) c.get-slot.result.now c.self.invariant.0.lists.same lt (c.get-slot.ensures c.get-slot.result.now)
 
 -- the row that moves is that of the last slot
 moved : (c : goal.After-vacate) → c.index.result.now ≡ row_of c.self.inside.slots.items (c.len.result - 1)
@@ -24,37 +24,37 @@ moved c =
     let lt : c.len.result - 1 < length slots.items = omega (arith, slots.ok.0) in
     sym (read_at slots.items (c.len.result - 1) c.index.result.now no_row lt c.index.ensures)
 
-left : (c : goal.After-vacate) → HasOrders c.vacate.new.slots.items (items c.strike.new.order.pages) (items c.strike-2.new.order.pages) (items c.strike-3.new.order.pages) (items c.strike-4.new.order.pages)
-    × (standing c.vacate.new.slots.items (items c.strike.new.order.pages) ≡ remove (standing c.self.inside.slots.items (items c.self.inside.by_key.pages)) (index_of c.self.inside.by_key.pages c.args.at))
+left : (c : goal.After-vacate) → HasOrders c.vacate.new.slots.items (items c.strike.new.order.chunks) (items c.strike-2.new.order.chunks) (items c.strike-3.new.order.chunks) (items c.strike-4.new.order.chunks)
+    × (standing c.vacate.new.slots.items (items c.strike.new.order.chunks) ≡ remove (standing c.self.inside.slots.items (items c.self.inside.by_key.chunks)) (index_of c.self.inside.by_key.chunks c.args.at))
 left c =
     let inside = c.self.inside in
     let slots = inside.slots.items in
-    let by_key = items inside.by_key.pages in
-    let by_list = items inside.by_list.pages in
-    let by_user = items inside.by_user.pages in
-    let by_sort = items inside.by_sort.pages in
+    let by_key = items inside.by_key.chunks in
+    let by_list = items inside.by_list.chunks in
+    let by_user = items inside.by_user.chunks in
+    let by_sort = items inside.by_sort.chunks in
     let slot = c.get-slot.result.now in
     let last = c.len.result - 1 in
     let row = c.index.result.now.0 in
-    let i = index_of inside.by_key.pages c.args.at in
-    let j = index_of inside.by_list.pages c.position_by_slot-in_list.result in
-    let k = index_of inside.by_user.pages c.position_by_slot-of_user.result in
-    let l = index_of inside.by_sort.pages c.position_by_slot-of_sort.result in
-    let lt = item_in_range inside.by_key.pages c.args.at (subst (λ (v : Slotted). IsItem v.by_key c.args.at) (sym c.self.view_is) c.requires) in
+    let i = index_of inside.by_key.chunks c.args.at in
+    let j = index_of inside.by_list.chunks c.position_by_slot-in_list.result in
+    let k = index_of inside.by_user.chunks c.position_by_slot-of_user.result in
+    let l = index_of inside.by_sort.chunks c.position_by_slot-of_sort.result in
+    let lt = item_in_range inside.by_key.chunks c.args.at (subst (λ (v : Slotted). IsItem v.by_key c.args.at) (sym c.self.view_is) c.requires) in
     let last_is : last ≡ length slots - 1 = omega (arith, inside.slots.ok.0) in
     let key_is : key_text (record { kind = c.kind.result; id = c.id.result.now }) ≡ stored_key (row_of slots last) = (λ i. key_text (record { kind = c.kind.ensures i; id = c.id.ensures i })) ∙ ap stored_key (moved c) in
     let list_is : filed_text filings.List row ≡ filed_key filings.List (row_of slots last) = ap (filed_key filings.List) (moved c) in
     let user_is : filed_text filings.User row ≡ filed_key filings.User (row_of slots last) = ap (filed_key filings.User) (moved c) in
     let sort_is : filed_text filings.Sort row ≡ filed_key filings.Sort (row_of slots last) = ap (filed_key filings.Sort) (moved c) in
-    let at_key = subst (λ (t : List Stored). IsPositionOf stored_key (key_text (record { kind = c.kind.result; id = c.id.result.now })) (standing t by_key) (place inside.by_key.pages c.position_by_key-moved_by_key.result)) c.deref-4.ensures.value c.position_by_key-moved_by_key.ensures.position in
-    let at_list = subst (λ (t : List Stored). IsPositionOf (filed_key filings.List) (filed_text filings.List row) (standing t by_list) (place inside.by_list.pages c.position_filed-moved_by_list.result)) c.deref-5.ensures.value c.position_filed-moved_by_list.ensures.position in
-    let at_user = subst (λ (t : List Stored). IsPositionOf (filed_key filings.User) (filed_text filings.User row) (standing t by_user) (place inside.by_user.pages c.position_filed-moved_by_user.result)) c.deref-6.ensures.value c.position_filed-moved_by_user.ensures.position in
-    let at_sort = subst (λ (t : List Stored). IsPositionOf (filed_key filings.Sort) (filed_text filings.Sort row) (standing t by_sort) (place inside.by_sort.pages c.position_filed-moved_by_sort.result)) c.deref-7.ensures.value c.position_filed-moved_by_sort.ensures.position in
-    let keys = struck_from stored_key slots by_key (items c.strike.new.order.pages) (key_text (record { kind = c.kind.result; id = c.id.result.now })) (place inside.by_key.pages c.position_by_key-moved_by_key.result) i slot last key_is c.self.invariant.0.key_order at_key c.strike.ensures.slots in
-    let lists = struck_from (filed_key filings.List) slots by_list (items c.strike-2.new.order.pages) (filed_text filings.List row) (place inside.by_list.pages c.position_filed-moved_by_list.result) j slot last list_is c.self.invariant.0.lists.in_order at_list c.strike-2.ensures.slots in
-    let users = struck_from (filed_key filings.User) slots by_user (items c.strike-3.new.order.pages) (filed_text filings.User row) (place inside.by_user.pages c.position_filed-moved_by_user.result) k slot last user_is c.self.invariant.0.users.in_order at_user c.strike-3.ensures.slots in
-    let sorts = struck_from (filed_key filings.Sort) slots by_sort (items c.strike-4.new.order.pages) (filed_text filings.Sort row) (place inside.by_sort.pages c.position_filed-moved_by_sort.result) l slot last sort_is c.self.invariant.0.sorts.in_order at_sort c.strike-4.ensures.slots in
-    removed_at slots c.vacate.new.slots.items by_key (items c.strike.new.order.pages) by_list (items c.strike-2.new.order.pages) by_user (items c.strike-3.new.order.pages) by_sort (items c.strike-4.new.order.pages) i j k l slot last
+    let at_key = subst (λ (t : List Stored). IsPositionOf stored_key (key_text (record { kind = c.kind.result; id = c.id.result.now })) (standing t by_key) (index_found inside.by_key.chunks c.position_by_key-moved_by_key.result)) c.deref-4.ensures.value c.position_by_key-moved_by_key.ensures.position in
+    let at_list = subst (λ (t : List Stored). IsPositionOf (filed_key filings.List) (filed_text filings.List row) (standing t by_list) (index_found inside.by_list.chunks c.position_filed-moved_by_list.result)) c.deref-5.ensures.value c.position_filed-moved_by_list.ensures.position in
+    let at_user = subst (λ (t : List Stored). IsPositionOf (filed_key filings.User) (filed_text filings.User row) (standing t by_user) (index_found inside.by_user.chunks c.position_filed-moved_by_user.result)) c.deref-6.ensures.value c.position_filed-moved_by_user.ensures.position in
+    let at_sort = subst (λ (t : List Stored). IsPositionOf (filed_key filings.Sort) (filed_text filings.Sort row) (standing t by_sort) (index_found inside.by_sort.chunks c.position_filed-moved_by_sort.result)) c.deref-7.ensures.value c.position_filed-moved_by_sort.ensures.position in
+    let keys = struck_from stored_key slots by_key (items c.strike.new.order.chunks) (key_text (record { kind = c.kind.result; id = c.id.result.now })) (index_found inside.by_key.chunks c.position_by_key-moved_by_key.result) i slot last key_is c.self.invariant.0.key_order at_key c.strike.ensures.slots in
+    let lists = struck_from (filed_key filings.List) slots by_list (items c.strike-2.new.order.chunks) (filed_text filings.List row) (index_found inside.by_list.chunks c.position_filed-moved_by_list.result) j slot last list_is c.self.invariant.0.lists.in_order at_list c.strike-2.ensures.slots in
+    let users = struck_from (filed_key filings.User) slots by_user (items c.strike-3.new.order.chunks) (filed_text filings.User row) (index_found inside.by_user.chunks c.position_filed-moved_by_user.result) k slot last user_is c.self.invariant.0.users.in_order at_user c.strike-3.ensures.slots in
+    let sorts = struck_from (filed_key filings.Sort) slots by_sort (items c.strike-4.new.order.chunks) (filed_text filings.Sort row) (index_found inside.by_sort.chunks c.position_filed-moved_by_sort.result) l slot last sort_is c.self.invariant.0.sorts.in_order at_sort c.strike-4.ensures.slots in
+    removed_at slots c.vacate.new.slots.items by_key (items c.strike.new.order.chunks) by_list (items c.strike-2.new.order.chunks) by_user (items c.strike-3.new.order.chunks) by_sort (items c.strike-4.new.order.chunks) i j k l slot last
     c.self.invariant.0 lt (c.get-slot.ensures slot) (record { within = c.position_by_slot-in_list.ensures.in_range; is = c.position_by_slot-in_list.ensures.found }) (record { within = c.position_by_slot-of_user.ensures.in_range; is = c.position_by_slot-of_user.ensures.found })
     (record { within = c.position_by_slot-of_sort.ensures.in_range; is = c.position_by_slot-of_sort.ensures.found }) c.vacate.ensures.rows last_is keys lists users sorts
 

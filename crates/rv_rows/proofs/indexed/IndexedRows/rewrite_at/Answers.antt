@@ -1,7 +1,7 @@
 use Rattle.std.proofs.Common.{◌≡◌, ◌<◌, Ok, length, get_or, set, sym, ap, ◌∙◌, subst, arith}
 use Rattle.rv_base.specs.Sorted.{IsPositionOf}
-use Rattle.rv_pages.specs.Paging.{items, index_of, IsItem}
-use Rattle.rv_pages.specs.PlaceLaws.{item_in_range}
+use Rattle.rv_chunks.specs.Chunking.{items, index_of, IsItem}
+use Rattle.rv_chunks.specs.IndexLaws.{item_in_range}
 use Rattle.rv_rows.specs.Keys.{row_text}
 use Rattle.rv_rows.specs.Held.{stored_key}
 use Rattle.rv_rows.specs.Sharing.{user_of}
@@ -14,17 +14,17 @@ use Rattle.rv_rows.proofs.indexed.IndexedRows.rewrite_at.Goals as goal
 pub rewrite-requires : goal.rewrite-requires
 rewrite-requires c =
     let inside = c.self.inside in
-    let pages = inside.by_key.pages in
-    let lt = item_in_range pages c.args.at (subst (λ (v : Slotted). IsItem v.by_key c.args.at) (sym c.self.view_is) c.requires.item) in
-    let low : c.get-slot.result.now < length inside.slots.items = slot_there inside.slots.items (items pages) (index_of pages c.args.at) c.get-slot.result.now c.self.invariant.0.key_slots lt (c.get-slot.ensures c.get-slot.result.now) in
+    let chunks = inside.by_key.chunks in
+    let lt = item_in_range chunks c.args.at (subst (λ (v : Slotted). IsItem v.by_key c.args.at) (sym c.self.view_is) c.requires.item) in
+    let low : c.get-slot.result.now < length inside.slots.items = slot_there inside.slots.items (items chunks) (index_of chunks c.args.at) c.get-slot.result.now c.self.invariant.0.key_slots lt (c.get-slot.ensures c.get-slot.result.now) in
     omega (arith, inside.slots.ok.0)
 
-rewritten : (c : goal.After-rewrite) → HasOrders c.rewrite.new.slots.items (items c.self.inside.by_key.pages) (items c.self.inside.by_list.pages) (items c.self.inside.by_user.pages) (items c.self.inside.by_sort.pages)
-    × (standing c.rewrite.new.slots.items (items c.self.inside.by_key.pages) ≡ set (standing c.self.inside.slots.items (items c.self.inside.by_key.pages)) (index_of c.self.inside.by_key.pages c.args.at) (c.args.row, c.args.version))
+rewritten : (c : goal.After-rewrite) → HasOrders c.rewrite.new.slots.items (items c.self.inside.by_key.chunks) (items c.self.inside.by_list.chunks) (items c.self.inside.by_user.chunks) (items c.self.inside.by_sort.chunks)
+    × (standing c.rewrite.new.slots.items (items c.self.inside.by_key.chunks) ≡ set (standing c.self.inside.slots.items (items c.self.inside.by_key.chunks)) (index_of c.self.inside.by_key.chunks c.args.at) (c.args.row, c.args.version))
 rewritten c =
     let inside = c.self.inside in
     let back = sym c.self.view_is in
-    written_at inside.slots.items c.rewrite.new.slots.items (items inside.by_key.pages) (items inside.by_list.pages) (items inside.by_user.pages) (items inside.by_sort.pages) (index_of inside.by_key.pages c.args.at) c.get-slot.result.now (c.args.row, c.args.version) c.self.invariant.0
+    written_at inside.slots.items c.rewrite.new.slots.items (items inside.by_key.chunks) (items inside.by_list.chunks) (items inside.by_user.chunks) (items inside.by_sort.chunks) (index_of inside.by_key.chunks c.args.at) c.get-slot.result.now (c.args.row, c.args.version) c.self.invariant.0
     (subst (λ (v : Slotted). IsPositionOf stored_key (row_text c.args.row) (rows_of v) (Ok (index_of v.by_key c.args.at))) back c.requires.position)
     (c.get-slot.ensures c.get-slot.result.now)
     (subst (λ (v : Slotted). under filings.List (get_or (rows_of v) (index_of v.by_key c.args.at) no_row).0 ≡ under filings.List c.args.row) back c.requires.list)

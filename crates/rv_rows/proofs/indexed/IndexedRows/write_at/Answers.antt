@@ -1,5 +1,5 @@
 use Rattle.std.proofs.Common.{◌∙◌}
-use Rattle.rv_pages.specs.Paging.{index_of}
+use Rattle.rv_chunks.specs.Chunking.{index_of}
 use Rattle.rv_rows.specs.Keys.{row_text}
 use Rattle.rv_rows.specs.Slots.{rows_of}
 use Rattle.rv_rows.proofs.RowSlots.{again_absent, again_put}

@@ -2,7 +2,7 @@ use Rattle.std.proofs.Common.{[], sym, ap, ◌∙◌}
 use Rattle.std.specs.List.{list_any}
 use Rattle.std.specs.Option.{is_some}
 use Rattle.std.specs.Str.{bytes_eq}
-use Rattle.rv_base.specs.Positions.{found-any}
+use Rattle.rv_base.specs.PositionLaws.{found-any}
 use Rattle.rv_rows.proofs.lists.Lists.has.Goals as goal
 
 pub returns-in-Ok : goal.returns-in-Ok

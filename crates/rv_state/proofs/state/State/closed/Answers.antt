@@ -1,6 +1,6 @@
 use Rattle.std.proofs.Common.{subst, sym}
 use Rattle.rv_history.specs.Closing.{SumsUp}
-use Rattle.rv_history.specs.SoundClosing.{page_is_sound}
+use Rattle.rv_history.specs.SoundClosingLaws.{page_is_sound}
 use Rattle.rv_state.specs.Standing.{Standing}
 use Rattle.rv_state.proofs.state.State.closed.Goals as goal
 

@@ -1,4 +1,4 @@
-use Rattle.rv_history.specs.SoundClosing.{retires_bound}
+use Rattle.rv_history.specs.SoundClosingLaws.{retires_bound}
 use Rattle.rv_state.proofs.Entered.{act_entered, look_entered, retirement_entered}
 use Rattle.rv_state.proofs.state.State.enter.Goals as goal
 

@@ -1,7 +1,7 @@
 use Rattle.std.proofs.Common.{◌≡◌, ℕ, ◌+◌, ◌≤◌, ap, ◌∙◌, subst}
 use Rattle.rv_book.specs.Book.{Book}
 use Rattle.rv_history.specs.MarkLaws.{mark_same}
-use Rattle.rv_history.specs.Reading.{pull_entries}
+use Rattle.rv_history.specs.Reading.{pull_steps}
 use Rattle.rv_news.specs.News.{is_base_since}
 use Rattle.rv_state.proofs.state.State.news.Goals as goal
 
@@ -17,4 +17,4 @@ returns-clause-since g c = λ mark is since. (
 pub returns-clause-most : goal.returns-clause-most
 returns-clause-most g c =
     let inside : c.self.inside.book.book ≡ c.args.self.now.book = cc in
-    subst (λ (book : Book). c.news_for.new.steps ≤ c.args.steps.now + pull_entries c.args.user.now c.args.request.now book) inside c.news_for.ensures.most
+    subst (λ (book : Book). c.news_for.new.steps ≤ c.args.steps.now + pull_steps c.args.user.now c.args.request.now book) inside c.news_for.ensures.most

@@ -1,7 +1,7 @@
 use Rattle.std.proofs.Common.{◌≡◌, ℕ, Bool, List, [], ◌∷◌, ◌++◌, ◌∙◌, arith}
 use Rattle.rv_book.specs.Registers.{groups_of}
 use Rattle.rv_record.specs.CellReading.{GroupFits}
-use Rattle.rv_history.specs.SoundClosing.{retires_bound}
+use Rattle.rv_history.specs.SoundClosingLaws.{retires_bound}
 use Rattle.rv_state.proofs.Openings.{all_more, none_got, so_far}
 use Rattle.rv_state.proofs.state.State.page_groups.Goals as goal
 

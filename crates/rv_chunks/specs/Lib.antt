@@ -1,0 +1,3 @@
+pub mod Chunking
+pub mod Vectors
+pub mod IndexLaws

@@ -1,0 +1,9 @@
+pub mod RecordLaws
+pub mod Readings
+pub mod FieldLaws
+pub mod WriterLaws
+pub mod Orders
+pub mod Fronts
+pub mod RowTextLaws
+pub mod Again
+pub mod ViewLaws

@@ -1,3 +1,0 @@
-pub mod Paging
-pub mod Vectors
-pub mod PlaceLaws
