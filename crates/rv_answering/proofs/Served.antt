@@ -1,7 +1,7 @@
 -- A request that was read of a line is what the line asks, and is answered so.
 use Rattle.std.proofs.Common.{◌≡◌, Bool, Result, Ok, Err, subst, inl, inr}
 use Rattle.rv_turns.specs.Asks.{Ask}
-use Rattle.rv_turns.specs.declared.outcome.Outcome.{Outcome}
+use Rattle.rv_turns.specs.declared.pushing.Outcome.{Outcome}
 use Rattle.rv_wire.specs.declared.fault.WireFault.{WireFault}
 use Rattle.rv_wire.specs.declared.fault.WireFault.TheVariants as faults
 use Rattle.rv_answering.specs.declared.request.Request.{Request}

@@ -5,7 +5,7 @@ use Rattle.rv_turns.specs.Asks.{Sender, Ask}
 use Rattle.rv_turns.specs.Outcomes.{refusal_of}
 use Rattle.rv_turns.specs.Pushing.{Pushes}
 use Rattle.rv_turns.specs.declared.mutation.Mutation.{Mutation}
-use Rattle.rv_turns.specs.declared.outcome.Outcome.{Outcome}
+use Rattle.rv_turns.specs.declared.pushing.Outcome.{Outcome}
 use Rattle.rv_turns.specs.declared.refusal.Refusal.{Refusal}
 use Rattle.rv_wire.specs.declared.error_body.ErrorBody.{ErrorBody}
 use Rattle.rv_wire.specs.Errors.{fault_error}

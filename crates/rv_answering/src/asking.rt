@@ -1,21 +1,34 @@
 // From the bytes of a line to what it asks.
 ghost use Rattle.std.specs.Prelude.{◌≡◌, IfOk, option_map};
 ghost use Rattle.rv_json.specs.ValueData.{value_data, members_data};
-ghost use Rattle.rv_answering.specs.Requests.{verb_of, body_asks, one_member, two_members, retire_asked, stop_asked, close_asked, one_asks, body_asked, members_ask, value_asks, line_of};
+ghost use Rattle.rv_answering.specs.Requests.{verb_of, body_asks, one_member, two_members, retire_asked, stop_asked, close_asked, one_asks, body_asked, members_ask, line_of};
 ghost use Rattle.rv_answering.specs.Reads.{IsReading, AreReadings, AreLines};
 
 use crate::line::Line;
 use crate::request::Request;
-use crate::schemas::FeedSchemas;
 use json::{Scratch, Value};
 use rv_base::{Memory, User};
 use rv_json::{Members, flag, members, read_json};
 use rv_rows::text_of_value;
-use rv_wire::{WireFault, pull_of_value, push_of_value};
+use rv_wire::{SchemaVersions, WireFault, pull_of_value, push_of_value};
 use std::alloc::Global;
 
 /// What a line of the form asks: a request, or the first thing that is wrong with its body.
 pub type Parsed = Result<Request, WireFault>;
+
+/// The schema versions that a feed serves: the empty one, `1` and `2`.
+#[derive(Clone, Copy, Debug)]
+pub struct FeedSchemas;
+
+impl SchemaVersions for FeedSchemas {
+    ghost use Rattle.rv_answering.specs.Requests.{serves};
+
+    ghost serves = { λ _. serves };
+
+    fn is_served(&self, schema: &str) -> bool {
+        schema.is_empty() || schema == "1" || schema == "2"
+    }
+}
 
 // What the user of a line does.
 #[derive(Clone, Copy, Debug, PartialEq, Eq)]

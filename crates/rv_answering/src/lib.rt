@@ -10,11 +10,9 @@ mod answering;
 mod asking;
 mod line;
 mod request;
-mod schemas;
 
 pub use answer::{Answer, Answered};
 pub use answering::{close_book, retire_group, run_pull, run_push, serve_asked, serve_request};
-pub use asking::{Parsed, line_of, one_member, two_members};
+pub use asking::{FeedSchemas, Parsed, line_of, one_member, two_members};
 pub use line::Line;
 pub use request::Request;
-pub use schemas::FeedSchemas;

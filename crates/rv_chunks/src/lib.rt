@@ -9,9 +9,7 @@ mod at;
 mod chunks;
 mod edits;
 mod search;
-mod walk;
 
 pub use at::At;
-pub use chunks::Chunks;
+pub use chunks::{Chunks, Walk};
 pub use search::Compare;
-pub use walk::Walk;

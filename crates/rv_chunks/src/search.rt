@@ -8,7 +8,7 @@ ghost use Rattle.rv_chunks.specs.Chunking.{items, chunk_at, index_of, index_foun
 ghost use Rattle.rv_chunks.specs.Vectors.{lists, HaveItems, ends, PartsChunks};
 
 use crate::at::At;
-use crate::walk::Walk;
+use crate::chunks::Walk;
 use std::cmp::Ordering;
 
 /// How each item stands to what is looked for.

@@ -29,7 +29,7 @@ use Rattle.rv_cli.specs.RunLaws.{desk_stands}
 use Rattle.rv_cli.specs.TroubleLaws.{any_step_causes, takes_cause}
 use Rattle.rv_turns.specs.Asks.{Ask}
 use Rattle.rv_turns.specs.Outcomes.{IsChanged, trouble_of}
-use Rattle.rv_turns.specs.declared.outcome.Outcome.{Outcome}
+use Rattle.rv_turns.specs.declared.pushing.Outcome.{Outcome}
 use Rattle.rv_wire.specs.Answers.{pull_json}
 
 none_next : (book : Book) (limit : ℕ) (doubt : Doubt) → doubt ≡ None → MayStand book limit doubt

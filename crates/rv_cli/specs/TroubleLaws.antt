@@ -22,11 +22,11 @@ use Rattle.rv_cli.specs.Headline.{Handles, TakesLine, Run, AnswersWith, AnswersT
 use Rattle.rv_turns.specs.Asks.{Sender, Ask}
 use Rattle.rv_turns.specs.Pushing.{Pushes}
 use Rattle.rv_wire.specs.Answers.{pull_json}
-use Rattle.rv_turns.specs.declared.outcome.Outcome.{Outcome}
+use Rattle.rv_turns.specs.declared.pushing.Outcome.{Outcome}
 use Rattle.rv_turns.specs.declared.refusal.Trouble.{Trouble}
 use Rattle.rv_turns.specs.declared.mutation.Mutation.{Mutation}
 use Rattle.rv_turns.specs.Outcomes.{refusal_of, trouble_in, trouble_of}
-use Rattle.rv_turns.specs.declared.outcome.Outcome.TheVariants as outcomes
+use Rattle.rv_turns.specs.declared.pushing.Outcome.TheVariants as outcomes
 use Rattle.rv_turns.specs.declared.refusal.Refusal.{Refusal}
 use Rattle.rv_turns.specs.declared.refusal.Refusal.TheVariants as refusals
 use Rattle.rv_wire.specs.declared.error_body.ErrorBody.TheVariants as errors

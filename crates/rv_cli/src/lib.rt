@@ -12,7 +12,6 @@
 #![tactic(auto)]
 
 mod ending;
-mod feed;
 mod follow;
 mod following;
 mod import;

@@ -16,9 +16,9 @@ ghost use Rattle.rv_cli.specs.Steadiness.{OutputIsSteady};
 ghost use Rattle.rv_cli.specs.declared.ending.Ending.TheVariants as endings;
 
 use crate::ending::Ending;
-use crate::feed::feed;
 use crate::follow::run_follow;
 use crate::import::run_import;
+use crate::lines::feed;
 use crate::make::run_make;
 use crate::reports::{run_activity, run_check, run_export, run_lists, run_ship};
 use crate::serve::run_serve;

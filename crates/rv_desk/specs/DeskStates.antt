@@ -3,7 +3,7 @@ use Rattle.std.specs.Prelude.{ℕ, ◌+◌, ◌≤◌, ◌<◌, ◌^◌, IfSome}
 use Rattle.rv_book.specs.Book.{Book}
 use Rattle.rv_turns.specs.Asks.{Ask}
 use Rattle.rv_turns.specs.Outcomes.{trouble_of}
-use Rattle.rv_turns.specs.declared.outcome.Outcome.{Outcome}
+use Rattle.rv_turns.specs.declared.pushing.Outcome.{Outcome}
 use Rattle.rv_wire.specs.Answers.{pull_json}
 use Rattle.rv_history.specs.Reading.{turn_steps}
 use Rattle.rv_history.specs.Served.{Doubt, MayStand, Served, TakesTurn}

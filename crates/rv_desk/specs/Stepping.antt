@@ -4,7 +4,7 @@ use Rattle.rv_base.specs.declared.fault.Fault.{Fault}
 use Rattle.rv_base.specs.declared.fault.Fault.TheVariants.{Failed, Memory}
 use Rattle.rv_turns.specs.Asks.{Ask}
 use Rattle.rv_turns.specs.Outcomes.{trouble_of}
-use Rattle.rv_turns.specs.declared.outcome.Outcome.{Outcome}
+use Rattle.rv_turns.specs.declared.pushing.Outcome.{Outcome}
 use Rattle.rv_turns.specs.declared.refusal.Refusal.TheVariants as refusals
 use Rattle.rv_wire.specs.Answers.{pull_json}
 use Rattle.rv_history.specs.Machine.{Refuses, Step}

@@ -5,8 +5,8 @@ use Rattle.rv_base.specs.CauseLaws.{rose_before}
 use Rattle.rv_book.specs.Book.{Book}
 use Rattle.rv_turns.specs.Asks.{Ask}
 use Rattle.rv_turns.specs.Outcomes.{trouble_of}
-use Rattle.rv_turns.specs.declared.outcome.Outcome.{Outcome}
-use Rattle.rv_turns.specs.declared.outcome.Outcome.TheVariants.{Refused}
+use Rattle.rv_turns.specs.declared.pushing.Outcome.{Outcome}
+use Rattle.rv_turns.specs.declared.pushing.Outcome.TheVariants.{Refused}
 use Rattle.rv_turns.specs.declared.refusal.Refusal.TheVariants as refusals
 use Rattle.rv_turns.specs.declared.refusal.Trouble.{Trouble}
 use Rattle.rv_turns.specs.declared.refusal.Trouble.TheVariants.{Keeper, Changed}

@@ -11,7 +11,6 @@ mod mutating;
 mod open_fault;
 mod pulling;
 mod retiring;
-mod settling;
 mod stepping;
 
 pub use desk::Desk;

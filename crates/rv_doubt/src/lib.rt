@@ -7,7 +7,5 @@
 
 mod doubt;
 mod keeping;
-mod settling;
 
-pub use keeping::keep;
-pub use settling::settle;
+pub use keeping::{keep, settle};

@@ -10,8 +10,8 @@ use Rattle.rv_turns.specs.Asks.{Sender, Ask, IsClosing}
 use Rattle.rv_turns.specs.Outcomes.{refusal_of, trouble_of}
 use Rattle.rv_turns.specs.Pushing.{Pushes}
 use Rattle.rv_turns.specs.declared.mutation.Mutation.{Mutation}
-use Rattle.rv_turns.specs.declared.outcome.Outcome.{Outcome}
-use Rattle.rv_turns.specs.declared.outcome.Outcome.TheVariants.{Acted, Skipped, Pulled, Retired, Closed, Refused}
+use Rattle.rv_turns.specs.declared.pushing.Outcome.{Outcome}
+use Rattle.rv_turns.specs.declared.pushing.Outcome.TheVariants.{Acted, Skipped, Pulled, Retired, Closed, Refused}
 use Rattle.rv_turns.specs.declared.pull.PullReply.{PullReply}
 use Rattle.rv_turns.specs.declared.pull.PullRequest.{PullRequest}
 use Rattle.rv_turns.specs.declared.refusal.Refusal.{Refusal}

@@ -17,7 +17,7 @@ use Rattle.rv_views.specs.declared.cookie.Cookie.TheVariants.{Named}
 use Rattle.rv_turns.specs.Asks.{Ask}
 use Rattle.rv_turns.specs.declared.op.Op.{Op}
 use Rattle.rv_turns.specs.declared.op.Op.TheVariants.{Del, Put}
-use Rattle.rv_turns.specs.declared.outcome.Outcome.TheVariants.{Pulled}
+use Rattle.rv_turns.specs.declared.pushing.Outcome.TheVariants.{Pulled}
 use Rattle.rv_turns.specs.declared.pull.PullReply.{PullReply}
 use Rattle.rv_turns.specs.declared.pull.PullRequest.{PullRequest}
 use Rattle.rv_book.specs.Book.{Book, last_order, ids, since, size, up_to}

@@ -5,8 +5,8 @@ use Rattle.rv_book.specs.Book.{Book, size, Extends}
 use Rattle.rv_book.specs.BookWordLaws.{extends_same, extends_on, size-with_entry}
 use Rattle.rv_turns.specs.Asks.{Ask, IsClosing}
 use Rattle.rv_turns.specs.Outcomes.{refusal_of, trouble_of}
-use Rattle.rv_turns.specs.declared.outcome.Outcome.{Outcome}
-use Rattle.rv_turns.specs.declared.outcome.Outcome.TheVariants.{Acted, Skipped, Pulled, Retired, Closed, Refused}
+use Rattle.rv_turns.specs.declared.pushing.Outcome.{Outcome}
+use Rattle.rv_turns.specs.declared.pushing.Outcome.TheVariants.{Acted, Skipped, Pulled, Retired, Closed, Refused}
 use Rattle.rv_turns.specs.declared.pull.PullReply.{PullReply}
 use Rattle.rv_turns.specs.declared.pull.PullRequest.{PullRequest}
 use Rattle.rv_turns.specs.declared.refusal.Trouble.{Trouble}

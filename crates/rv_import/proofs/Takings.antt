@@ -6,8 +6,8 @@ use Rattle.std.proofs.lemmas.Option.{none-some, same_Some}
 use Rattle.rv_turns.specs.Asks.{Ask, Sender}
 use Rattle.rv_turns.specs.Outcomes.{has_acted, refusal_of}
 use Rattle.rv_turns.specs.declared.mutation.Mutation.{Mutation}
-use Rattle.rv_turns.specs.declared.outcome.Outcome.{Outcome}
-use Rattle.rv_turns.specs.declared.outcome.Outcome.TheVariants as outcomes
+use Rattle.rv_turns.specs.declared.pushing.Outcome.{Outcome}
+use Rattle.rv_turns.specs.declared.pushing.Outcome.TheVariants as outcomes
 use Rattle.rv_turns.specs.declared.refusal.Refusal.{Refusal}
 use Rattle.rv_import.specs.Imports.{Asked, bad_at}
 use Rattle.rv_import.specs.Importing.{AreDone, EndsImport, Imported, TakesInOrder, counts_of, is_skipped}

@@ -7,7 +7,7 @@ use Rattle.rv_book.specs.declared.entry.Entry.{Entry}
 use Rattle.rv_book.specs.declared.entry.Entry.TheVariants.{Act, Look, Retire}
 use Rattle.rv_book.specs.Book.{Book, last, opening}
 use Rattle.rv_turns.specs.declared.mutation.Mutation.{Mutation}
-use Rattle.rv_turns.specs.declared.outcome.Outcome.{Outcome}
+use Rattle.rv_turns.specs.declared.pushing.Outcome.{Outcome}
 use Rattle.rv_history.specs.Machine.{ReplyText}
 use Rattle.rv_history.specs.Served.{Served, TakesTurn, with_doubt}
 use Rattle.rv_import.specs.Imports.{asked_of, client_id}

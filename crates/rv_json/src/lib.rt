@@ -6,11 +6,7 @@
 #![tactic(auto)]
 
 mod lookup;
-mod numbers;
-mod objects;
-mod readable;
 mod reading;
 
-pub use lookup::{flag, is_null, is_object, item, items, member, text, whole};
-pub use objects::{Members, members};
+pub use lookup::{Members, flag, is_null, is_object, item, items, member, members, text, whole};
 pub use reading::read_json;

@@ -1,12 +1,12 @@
 // From a text to the value that it is.
 ghost use Rattle.std.specs.Prelude.{◌≡◌, IfOk, option_map};
-ghost use Rattle.json.specs.Value.{value_view};
+ghost use Rattle.json.specs.Value.{value_view, items_view, members_view};
 ghost use Rattle.serde_json.specs.Read.{of_json, read};
 ghost use Rattle.rv_json.specs.JsonTexts.{json_in};
-ghost use Rattle.rv_json.specs.Documents.{tree_in};
+ghost use Rattle.rv_json.specs.Documents.{tree_in, is_readable, are_readable, have_readable};
 ghost use Rattle.rv_json.specs.ValueData.{value_data};
 
-use crate::readable::is_readable;
+use crate::lookup::is_in_range;
 use json::{Error, Reader, Scratch, Value};
 use rv_base::Memory;
 use std::alloc::Global;
@@ -27,6 +27,48 @@ fn read_tree<'t>(alloc: Global, reader: &mut Reader<'t>) -> Result<Option<Value<
         None => Ok(Some(tree)),
         Some(_) => Ok(None),
     }
+}
+
+// Whether each number of a document is in range.
+#[cycle(readable)]
+#[tactic(auto, using(crate::proofs::Trees::view_null, crate::proofs::Trees::view_bool, crate::proofs::Trees::view_number, crate::proofs::Trees::view_string, crate::proofs::Trees::view_array, crate::proofs::Trees::view_object))]
+fn is_readable(tree: &Value<'_>) -> bool
+    ensures { result ≡ is_readable (value_view tree.now) }
+{
+    match tree {
+        Value::Null => true,
+        Value::Bool(_) => true,
+        Value::Number(text) => is_in_range(text),
+        Value::String(_) => true,
+        Value::Array(items) => are_readable(items),
+        Value::Object(members) => have_readable(members),
+    }
+}
+
+// Whether each number of each item is.
+#[cycle(readable)]
+fn are_readable(items: &Vec<Value<'_>>) -> bool
+    ensures { result ≡ are_readable (items_view items.now.items) }
+{
+    for item in items {
+        if !is_readable(item) {
+            return false;
+        }
+    }
+    true
+}
+
+// Whether each number of each member is.
+#[cycle(readable)]
+fn have_readable(members: &Vec<(&str, Value<'_>)>) -> bool
+    ensures { result ≡ have_readable (members_view members.now.items) }
+{
+    for (_name, value) in members {
+        if !is_readable(value) {
+            return false;
+        }
+    }
+    true
 }
 
 // The tree, where each of its numbers is in range.

@@ -7,7 +7,7 @@ use Rattle.std.proofs.lemmas.List.Sums.{sum_by-cons}
 use Rattle.std.specs.Io.KnownBytes.{Appends}
 use Rattle.rv_base.specs.Outside.{OutputState}
 use Rattle.rv_turns.specs.Outcomes.{has_acted}
-use Rattle.rv_turns.specs.declared.outcome.Outcome.{Outcome}
+use Rattle.rv_turns.specs.declared.pushing.Outcome.{Outcome}
 use Rattle.rv_book.specs.Book.{Book, last, size}
 use Rattle.rv_make.specs.declared.summary.Summary.{Summary}
 use Rattle.rv_make.specs.Answered.{is_look, is_same, is_skipped, one_if}

@@ -4,8 +4,8 @@ use Rattle.rv_rows.specs.declared.call.Call.{Call}
 use Rattle.rv_views.specs.declared.cookie.Cookie.{Cookie}
 use Rattle.rv_views.specs.declared.cookie.Cookie.TheVariants.{Null}
 use Rattle.rv_turns.specs.Asks.{Ask}
-use Rattle.rv_turns.specs.declared.outcome.Outcome.{Outcome}
-use Rattle.rv_turns.specs.declared.outcome.Outcome.TheVariants.{Acted, Skipped, Pulled, Retired, Closed, Refused}
+use Rattle.rv_turns.specs.declared.pushing.Outcome.{Outcome}
+use Rattle.rv_turns.specs.declared.pushing.Outcome.TheVariants.{Acted, Skipped, Pulled, Retired, Closed, Refused}
 use Rattle.rv_turns.specs.declared.pull.PullReply.{PullReply}
 use Rattle.rv_book.specs.Book.{Book, size, with_entry}
 use Rattle.rv_book.specs.BookWordLaws.{size-with_entry}

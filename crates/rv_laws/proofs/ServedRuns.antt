@@ -32,8 +32,8 @@ use Rattle.rv_cli.specs.TroubleLaws.{HasTrouble, any_step_causes, taken_rises, t
 use Rattle.rv_wire.specs.Answers.{pull_json}
 use Rattle.rv_turns.specs.Asks.{Ask}
 use Rattle.rv_turns.specs.Outcomes.{IsChanged, trouble_of}
-use Rattle.rv_turns.specs.declared.outcome.Outcome.{Outcome}
-use Rattle.rv_turns.specs.declared.outcome.Outcome.TheVariants as outcomes
+use Rattle.rv_turns.specs.declared.pushing.Outcome.{Outcome}
+use Rattle.rv_turns.specs.declared.pushing.Outcome.TheVariants as outcomes
 use Rattle.rv_turns.specs.declared.refusal.Trouble.{Trouble}
 use Rattle.rv_turns.specs.declared.pull.PullRequest.{PullRequest}
 use Rattle.rv_turns.specs.declared.pull.PullReply.{PullReply}

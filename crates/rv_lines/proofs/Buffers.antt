@@ -12,7 +12,7 @@ use Rattle.memchr.specs.Find.{Nowhere, Passes, IsFirstByte, is_byte}
 use Rattle.rv_base.specs.Outside.{InputState}
 use Rattle.rv_lines.specs.Lines.{HasNoLf, has_lf, longest_line}
 use Rattle.rv_lines.specs.Found.{FindsLine}
-use Rattle.rv_lines.specs.declared.buffer.Found.TheVariants.{At}
+use Rattle.rv_lines.specs.declared.line_reader.Found.TheVariants.{At}
 use Rattle.rv_lines.specs.Reading.{ReadsAhead}
 
 or_left : (a b : Bool) → (a || b) ≡ false → a ≡ false

@@ -6,8 +6,8 @@ use Rattle.rv_base.specs.Causes.{Rose}
 use Rattle.rv_base.specs.Outside.{InputState, counted_if}
 use Rattle.rv_base.specs.declared.fault.Fault.{Fault}
 use Rattle.rv_base.specs.declared.fault.Fault.TheVariants.{Failed, Memory}
-use Rattle.rv_lines.specs.declared.buffer.Found.{Found}
-use Rattle.rv_lines.specs.declared.buffer.Found.TheVariants.{At, Rest, Long}
+use Rattle.rv_lines.specs.declared.line_reader.Found.{Found}
+use Rattle.rv_lines.specs.declared.line_reader.Found.TheVariants.{At, Rest, Long}
 use Rattle.rv_lines.specs.Lines.{HasNoLf, BeginsLong, longest_line}
 use Rattle.rv_lines.specs.Reading.{read_failed}
 

@@ -4,7 +4,6 @@
 //! must: nothing while it holds a whole line, and nothing after the end.
 #![tactic(auto)]
 
-mod buffer;
 mod line_reader;
 mod next;
 

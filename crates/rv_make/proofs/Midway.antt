@@ -2,7 +2,7 @@
 use Rattle.std.proofs.Common.{◌≡◌, ℕ, ◌+◌, ◌-◌, ◌^◌, ◌<◌, ◌≤◌, List, [], ◌∷◌, ◌++◌, length, refl, sym, ap, ◌∙◌, subst, arith, append-nil}
 use Rattle.rv_desk.specs.DeskStates.{DeskState, served}
 use Rattle.rv_keeper.specs.declared.keeper.Keeper.{Ghosts}
-use Rattle.rv_turns.specs.declared.outcome.Outcome.{Outcome}
+use Rattle.rv_turns.specs.declared.pushing.Outcome.{Outcome}
 use Rattle.rv_make.specs.declared.counts.AnswerCounts.{AnswerCounts}
 use Rattle.rv_make.specs.declared.devices.Device.{Device}
 use Rattle.rv_make.specs.declared.made.MadeRequest.{MadeRequest}

@@ -3,7 +3,7 @@ use Rattle.std.proofs.Common.{◌≡◌, ℕ, ◌+◌, ◌-◌, ◌^◌, ◌<◌
 use Rattle.std.specs.List.{count_by}
 use Rattle.std.proofs.lemmas.List.Sums.{count_by-le-length, sum_by-append}
 use Rattle.rv_turns.specs.Outcomes.{has_acted}
-use Rattle.rv_turns.specs.declared.outcome.Outcome.{Outcome}
+use Rattle.rv_turns.specs.declared.pushing.Outcome.{Outcome}
 use Rattle.rv_make.specs.declared.counts.AnswerCounts.{AnswerCounts}
 use Rattle.rv_make.specs.declared.made.MadeRequest.{MadeRequest}
 use Rattle.rv_make.specs.declared.three.Three.{Three}

@@ -1,8 +1,8 @@
 -- How many requests were answered how.
 use Rattle.std.specs.Prelude.{ℕ, ◌+◌, ◌-◌, ◌^◌, ◌<◌, Bool, true, false, not, List, count_by, if◌then◌else◌}
 use Rattle.rv_turns.specs.Outcomes.{has_acted}
-use Rattle.rv_turns.specs.declared.outcome.Outcome.{Outcome}
-use Rattle.rv_turns.specs.declared.outcome.Outcome.TheVariants.{Skipped, Pulled, Refused}
+use Rattle.rv_turns.specs.declared.pushing.Outcome.{Outcome}
+use Rattle.rv_turns.specs.declared.pushing.Outcome.TheVariants.{Skipped, Pulled, Refused}
 use Rattle.rv_turns.specs.declared.refusal.Refusal.TheVariants.{Memory}
 use Rattle.rv_make.specs.declared.counts.AnswerCounts.{AnswerCounts}
 

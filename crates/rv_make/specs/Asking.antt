@@ -1,7 +1,7 @@
 -- What a request that was made asks for.
 use Rattle.std.specs.Prelude.{ℕ, List}
 use Rattle.rv_turns.specs.Asks.{Ask}
-use Rattle.rv_turns.specs.declared.outcome.Outcome.{Outcome}
+use Rattle.rv_turns.specs.declared.pushing.Outcome.{Outcome}
 use Rattle.rv_views.specs.declared.cookie.Cookie.TheVariants.{Null}
 use Rattle.rv_make.specs.declared.devices.Device.{Device}
 use Rattle.rv_make.specs.declared.made.MadeRequest.{MadeRequest}

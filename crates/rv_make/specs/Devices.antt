@@ -1,8 +1,8 @@
 -- The devices of the users: a user's client group, its one client, and the cookie that was answered to its pulls last.
 use Rattle.std.specs.Prelude.{ℕ, List, codes, if◌then◌else◌}
 use Rattle.std.specs.Str.{bytes_eq}
-use Rattle.rv_turns.specs.declared.outcome.Outcome.{Outcome}
-use Rattle.rv_turns.specs.declared.outcome.Outcome.TheVariants.{Pulled}
+use Rattle.rv_turns.specs.declared.pushing.Outcome.{Outcome}
+use Rattle.rv_turns.specs.declared.pushing.Outcome.TheVariants.{Pulled}
 use Rattle.rv_views.specs.declared.cookie.Cookie.TheVariants.{Null}
 use Rattle.rv_make.specs.declared.devices.Device.{Device}
 use Rattle.rv_make.specs.declared.three.Three.{Three}

@@ -2,7 +2,7 @@
 use Rattle.std.specs.Prelude.{◌≡◌, ℕ, List, false}
 use Rattle.rv_desk.specs.DeskStates.{DeskTakes, DeskState, served}
 use Rattle.rv_keeper.specs.declared.keeper.Keeper.{Ghosts}
-use Rattle.rv_turns.specs.declared.outcome.Outcome.{Outcome}
+use Rattle.rv_turns.specs.declared.pushing.Outcome.{Outcome}
 use Rattle.rv_make.specs.declared.counts.AnswerCounts.{AnswerCounts}
 use Rattle.rv_make.specs.declared.devices.Device.{Device}
 use Rattle.rv_make.specs.declared.made.MadeRequest.{MadeRequest}

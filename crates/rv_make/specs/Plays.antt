@@ -3,7 +3,7 @@ use Rattle.std.specs.Prelude.{◌≡◌, ℕ, ◌-◌, ◌^◌, List, [], ◌∷
 use Rattle.rv_rows.specs.Held.{Stored}
 use Rattle.rv_book.specs.Book.{Book, empty_book, size}
 use Rattle.rv_turns.specs.Outcomes.{trouble_of}
-use Rattle.rv_turns.specs.declared.outcome.Outcome.{Outcome}
+use Rattle.rv_turns.specs.declared.pushing.Outcome.{Outcome}
 use Rattle.rv_wire.specs.Answers.{pull_json}
 use Rattle.rv_history.specs.Replay.{IsReplay}
 use Rattle.rv_history.specs.Served.{Served, TakesTurn}

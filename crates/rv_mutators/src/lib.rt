@@ -6,7 +6,6 @@
 
 mod extents;
 mod lists;
-mod readers;
 mod shares;
 mod staged;
 mod staging;

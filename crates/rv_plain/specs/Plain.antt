@@ -4,7 +4,7 @@ use Rattle.rv_rows.specs.declared.call.Call.{Call}
 use Rattle.rv_rows.specs.Changes.{after}
 use Rattle.rv_rows.specs.Held.{Stored}
 use Rattle.rv_turns.specs.Asks.{Ask, Sender}
-use Rattle.rv_turns.specs.declared.outcome.Outcome.{Outcome}
+use Rattle.rv_turns.specs.declared.pushing.Outcome.{Outcome}
 use Rattle.rv_book.specs.declared.entry.Entry.{Entry}
 use Rattle.rv_book.specs.declared.entry.Entry.TheVariants.{Act, Look, Retire}
 use Rattle.rv_book.specs.declared.page.Page.{Page}

@@ -1,4 +1,5 @@
-ghost use Rattle.std.specs.Prelude.{◌≡◌, [], IfOk};
+// What is kept as cells, and places as the keys of cells.
+ghost use Rattle.std.specs.Prelude.{◌≡◌, ◌≤◌, ℕ, [], IfOk, IfSome, Some};
 ghost use Rattle.std.specs.Str.{IsUtf8};
 ghost use Rattle.serde_json.specs.Data.{number, unsigned};
 ghost use Rattle.serde_json.specs.Written.{compact_text};
@@ -6,15 +7,16 @@ ghost use Rattle.rv_rows.specs.Keys.{row_text};
 ghost use Rattle.rv_book.specs.declared.entry.Entry.TheVariants.{Act, Look, Retire};
 ghost use Rattle.rv_record.specs.EntryTexts.{entry_data};
 ghost use Rattle.rv_record.specs.CellTexts.{AreTexts, row_body, client_body, group_body, view_body, entry_cell, row_cell, row_cell_on, client_cell, client_cell_on, group_cell, group_cell_on, view_cell};
-ghost use Rattle.rv_record.specs.CellTexts.{page_cell, page_client_cell, page_group_cell, page_row_cell};
+ghost use Rattle.rv_record.specs.CellTexts.{page_cell, page_client_cell, page_group_cell, page_row_cell, ten_digits};
 ghost use Rattle.rv_record.specs.CellReading.{same_cell};
+ghost use Rattle.rv_record.specs.EntryReading.{IsPlace};
 
-use crate::places::ten_digits;
 use crate::view_writing::write_view;
 use crate::writing::{
     write_act, write_group_body, write_look, write_pair, write_place, write_retirement,
     write_row_body,
 };
+use itoa::Buffer;
 use json::Writer;
 use rv_base::{Bytes, Id, Memory, Num, Sequence, User};
 use rv_book::Entry;
@@ -120,6 +122,41 @@ fn view_text(alloc: Global, view: &ViewRecord) -> Result<Bytes, Memory>
     let mut out = begin(alloc, LONG)?;
     write_view(&mut out, &mut key_text, view)?;
     Ok(Sequence::from_vec(out.into_inner()))
+}
+
+/// The place in ten decimal digits, with leading zeros, so that the order of the keys is that of the places. It fails only
+/// where memory is refused.
+pub fn ten_digits(alloc: Global, place: u32) -> Result<Bytes, Memory>
+    ensures key { IfOk result (λ key. key ≡ ten_digits place) }
+    ensures utf8 { IfOk result IsUtf8 }
+{
+    let mut buffer = Buffer::new();
+    let digits = buffer.format(place).as_bytes();
+    let mut key = vec![in alloc; b'0'; 10 - digits.len()]?;
+    key.extend_from_slice(digits)?;
+    Ok(Sequence::from_vec(key))
+}
+
+// The place that the digits write.
+fn place_of_digits(digits: &str) -> Option<u32>
+    ensures written { (place : ℕ) → IsPlace place → digits.now ≡ ten_digits place → result ≡ Some place }
+    ensures low { IfSome result (λ place. 1 ≤ place) }
+{
+    match digits.parse::<u32>() {
+        Ok(place) => { if place == 0 { None } else { Some(place) } }
+        Err(_) => None,
+    }
+}
+
+// The place that a key writes. Here it may write it in fewer or more digits than ten.
+pub(crate) fn place_of_key(key: &[u8]) -> Option<u32>
+    ensures written { (place : ℕ) → IsPlace place → key.now ≡ ten_digits place → result ≡ Some place }
+    ensures low { IfSome result (λ place. 1 ≤ place) }
+{
+    match str::from_utf8(key) {
+        Ok(digits) => place_of_digits(digits),
+        Err(_) => None,
+    }
 }
 
 // The bytes of a name.

@@ -7,9 +7,8 @@ ghost use Rattle.rv_record.specs.ValueReading.{or_null, place_in, text_item};
 ghost use Rattle.rv_record.specs.EntryReading.{PlacedFits, act_in, look_in, entry_with, entry_in, body_entry};
 
 use crate::call_reading::call_of_value;
-use crate::cells::{cell_of_entry, is_same};
+use crate::cells::{cell_of_entry, is_same, place_of_key};
 use crate::fault::{CellFault, damaged};
-use crate::places::place_of_key;
 use crate::value_reading::{num_item, place_of_value, string_item, text_item};
 use json::{Scratch, Value};
 use rv_base::{Id, Memory};

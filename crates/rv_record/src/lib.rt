@@ -15,7 +15,6 @@ mod opening;
 mod page_checking;
 mod page_read;
 mod page_reading;
-mod places;
 mod row_reading;
 mod value_reading;
 mod view_reading;
@@ -25,7 +24,7 @@ mod writing;
 pub use cells::{
     cell_of_act, cell_of_client, cell_of_entry, cell_of_group, cell_of_look, cell_of_page,
     cell_of_page_client, cell_of_page_group, cell_of_page_row, cell_of_retirement, cell_of_row,
-    cell_of_view,
+    cell_of_view, ten_digits,
 };
 pub use client_reading::{client_of_cell, group_of_cell, page_client_of_cell, page_group_of_cell};
 pub use entry_reading::entry_of_cell;
@@ -37,6 +36,5 @@ pub use fitting::{
 pub use opening::read_page;
 pub use page_read::PageRead;
 pub use page_reading::page_of_cell;
-pub use places::ten_digits;
 pub use row_reading::{page_row_of_cell, row_of_cell};
 pub use view_reading::view_of_cell;

@@ -9,9 +9,8 @@ ghost use Rattle.rv_record.specs.CellTexts.{view_cell};
 ghost use Rattle.rv_record.specs.CellReading.{ReadsCell};
 ghost use Rattle.rv_record.specs.ViewReading.{ViewFits, after_front, key_with, key_in, seen_in, pair_in, each_of, viewed, view_in, body_view};
 
-use crate::cells::{cell_of_view, is_same};
+use crate::cells::{cell_of_view, is_same, place_of_key};
 use crate::fault::{CellFault, damaged};
-use crate::places::place_of_key;
 use crate::value_reading::{num_item, place_item, string_item, text_item, text_of_bytes};
 use json::{Scratch, Value};
 use rv_base::{Id, Memory, Num, Sequence};

@@ -6,8 +6,8 @@ use Rattle.rv_book.specs.Book.{Book, size, since, with_entry, Extends}
 use Rattle.rv_book.specs.BookWordLaws.{since-all, since-with_entry, size-with_entries, size-with_entry}
 use Rattle.rv_turns.specs.Asks.{Ask, IsClosing}
 use Rattle.rv_turns.specs.Outcomes.{trouble_of}
-use Rattle.rv_turns.specs.declared.outcome.Outcome.{Outcome}
-use Rattle.rv_turns.specs.declared.outcome.Outcome.TheVariants.{Refused}
+use Rattle.rv_turns.specs.declared.pushing.Outcome.{Outcome}
+use Rattle.rv_turns.specs.declared.pushing.Outcome.TheVariants.{Refused}
 use Rattle.rv_turns.specs.declared.refusal.Refusal.TheVariants as refusals
 use Rattle.rv_turns.specs.declared.refusal.Trouble.{Trouble}
 use Rattle.rv_turns.specs.declared.refusal.Trouble.TheVariants.{Keeper, Changed}

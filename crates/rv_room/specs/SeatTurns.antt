@@ -2,7 +2,7 @@
 use Rattle.std.specs.Prelude.{◌≡◌, ℕ, ◌+◌, ◌≤◌, ◌<◌, ◌^◌, length, [], ◌∷◌, ◌++◌, Some}
 use Rattle.rv_book.specs.Book.{size, since, Extends}
 use Rattle.rv_turns.specs.Asks.{Ask, IsClosing}
-use Rattle.rv_turns.specs.declared.outcome.Outcome.{Outcome}
+use Rattle.rv_turns.specs.declared.pushing.Outcome.{Outcome}
 use Rattle.rv_history.specs.Reading.{turn_steps}
 use Rattle.rv_keeper.specs.declared.keeper.Keeper.{Ghosts}
 use Rattle.rv_desk.specs.DeskStates.{DeskTakes, DeskState}

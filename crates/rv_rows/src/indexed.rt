@@ -18,7 +18,7 @@ use crate::positions::{
     strike, vacate,
 };
 use crate::row::Row;
-use crate::rows_in_order::RowsInOrder;
+use crate::tables::RowsInOrder;
 use rv_base::{Id, Memory};
 use rv_chunks::{At, Chunks};
 use std::alloc::Global;

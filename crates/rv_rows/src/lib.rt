@@ -17,7 +17,6 @@ mod role;
 mod row;
 mod row_json;
 mod row_reading;
-mod rows_in_order;
 mod sequences;
 mod tables;
 
@@ -35,6 +34,5 @@ pub use role::Role;
 pub use row::{ExtentRow, ListRow, Row, ShareRow, TodoRow};
 pub use row_json::row_value;
 pub use row_reading::read_row;
-pub use rows_in_order::RowsInOrder;
 pub use sequences::{Clients, Ids, Keys, Rows, Users, Visible};
-pub use tables::Tables;
+pub use tables::{RowsInOrder, Tables};

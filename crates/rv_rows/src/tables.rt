@@ -1,17 +1,19 @@
-ghost use Rattle.std.specs.Prelude.{◌≡◌, ◌≤◌, ◌+◌, [], option_map, OnOk, is_some};
+ghost use Rattle.std.specs.Prelude.{◌≡◌, ◌≤◌, ◌+◌, [], length, option_map, OnOk, is_some};
 ghost use Rattle.std.specs.List.{filter, list_any};
 ghost use Rattle.std.specs.Str.{bytes_eq};
+ghost use Rattle.std.specs.Iterator.{YieldsFirstBy, item_count};
 ghost use Rattle.rv_rows.specs.declared.key.Kind.TheVariants.{Extent};
 ghost use Rattle.rv_rows.specs.Keys.{key_text, row_text};
 ghost use Rattle.rv_rows.specs.Held.{find, put, remove, rows_in, AreRows};
 ghost use Rattle.rv_rows.specs.Sharing.{belongs, is_any_extent, user_of};
 ghost use Rattle.rv_rows.specs.Effects.{greatest_sort};
+ghost use Rattle.rv_rows.specs.Slots.{standing, AreSlots};
 
 use crate::indexed::IndexedRows;
 use crate::key::{Key, Kind};
 use crate::row::Row;
-use crate::rows_in_order::RowsInOrder;
 use rv_base::{Id, Memory, User};
+use rv_chunks::Walk;
 use std::alloc::Global;
 use std::marker::Model;
 
@@ -168,5 +170,51 @@ impl Tables {
         ensures { result ≡ greatest_sort list.now (rows_in self.now.rows) }
     {
         self.rows.greatest_sort(list.as_str())
+    }
+}
+
+/// The rows of [`Tables`](crate::Tables) that are still to come, in the order of their keys.
+///
+/// A contract sees the list of those that are left, each with its version.
+#[derive(Drop)]
+pub struct RowsInOrder<'a> {
+    slots: &'a [(Row, u32)],
+    // the slots of those that are left
+    order: Walk<'a, u32>,
+}
+
+impl<'a> Model for RowsInOrder<'a> {
+    ghost use Rattle.std.specs.Prelude.{List, length};
+    ghost use Rattle.rv_rows.specs.Held.{Stored};
+    ghost use Rattle.rv_rows.specs.Slots.{standing, AreSlots};
+
+    ghost Value = { List Stored };
+
+    ghost view = { λ left. standing left.slots.now left.order };
+
+    ghost invariant = { λ left. AreSlots (length left.slots.now) left.order };
+}
+
+impl<'a> RowsInOrder<'a> {
+    // The rows in the slots of an order.
+    pub(crate) fn new(slots: &'a [(Row, u32)], order: Walk<'a, u32>) -> RowsInOrder<'a>
+        requires { AreSlots (length slots.now) order }
+        ensures { result ≡ standing slots.now order.entry }
+    {
+        RowsInOrder { slots, order }
+    }
+}
+
+impl<'a> Iterator for RowsInOrder<'a> {
+    type Item = (&'a Row, u32);
+
+    ghost next_gives = { YieldsFirstBy (λ item. (item.0.now, item.1)) (λ left. left) };
+
+    ghost remaining = { item_count (λ left. left) };
+
+    fn next(&mut self) -> Option<(&'a Row, u32)> {
+        let slot = *self.order.next()?;
+        let stored = &self.slots[slot as usize];
+        Some((&stored.0, stored.1))
     }
 }

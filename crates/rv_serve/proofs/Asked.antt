@@ -13,7 +13,7 @@ use Rattle.rv_answering.specs.Requests.{push_asked, pull_asked}
 use Rattle.rv_answering.specs.Steps.{Answers, HandlesActing}
 use Rattle.rv_serve.specs.Replies.{serves}
 use Rattle.rv_turns.specs.Asks.{Ask}
-use Rattle.rv_turns.specs.declared.outcome.Outcome.{Outcome}
+use Rattle.rv_turns.specs.declared.pushing.Outcome.{Outcome}
 use Rattle.rv_turns.specs.declared.pull.PullRequest.{PullRequest}
 use Rattle.rv_wire.specs.declared.fault.WireFault.TheVariants as faults
 use Rattle.rv_wire.specs.declared.push.Push as pushes

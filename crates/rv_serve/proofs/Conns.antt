@@ -15,7 +15,7 @@ use Rattle.rv_serve.specs.Talk.{TalksPast, answered, heard_from}
 use Rattle.rv_serve.specs.Causes.{ConnCause, ConnInputIsSteady, ConnOutputIsSteady}
 use Rattle.rv_serve.specs.Listening.{ServedConn, ServesConn, ServesEach, ServesPast, heard_over}
 use Rattle.rv_turns.specs.Asks.{Ask}
-use Rattle.rv_turns.specs.declared.outcome.Outcome.{Outcome}
+use Rattle.rv_turns.specs.declared.pushing.Outcome.{Outcome}
 
 heard_more : {I O : Type 0} (conns : List (ServedConn I O)) (conn : ServedConn I O) → heard_over (conns ++ conn ∷ []) ≡ heard_over conns ++ heard_from 1 conn.answers
 heard_more [] conn = append-nil (heard_from 1 conn.answers)

@@ -21,7 +21,7 @@ use Rattle.rv_serve.specs.Talk.{Exchange, closes_at, exchange_text, text_from, h
 use Rattle.rv_serve.specs.Steps.{AnswersOne, EndsConn}
 use Rattle.rv_serve.proofs.Counting.{counts_from}
 use Rattle.rv_turns.specs.Asks.{Ask}
-use Rattle.rv_turns.specs.declared.outcome.Outcome.{Outcome}
+use Rattle.rv_turns.specs.declared.pushing.Outcome.{Outcome}
 use Rattle.rv_http.specs.declared.http_end.HttpEnd.TheVariants as reading
 
 module _ {S : Type 0} (takes : S → Ask → Outcome → S → Type 0) (settled : S → ℕ) (accounts : Accounts) where

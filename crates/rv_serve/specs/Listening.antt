@@ -13,7 +13,7 @@ use Rattle.rv_serve.specs.declared.conn_end.ConnEnd.{ConnEnd}
 use Rattle.rv_serve.specs.Talk.{Exchange, Talks, answered, heard_from}
 use Rattle.rv_serve.specs.Causes.{ConnCause, ConnInputIsSteady, ConnOutputIsSteady}
 use Rattle.rv_turns.specs.Asks.{Ask}
-use Rattle.rv_turns.specs.declared.outcome.Outcome.{Outcome}
+use Rattle.rv_turns.specs.declared.pushing.Outcome.{Outcome}
 
 -- a connection as it was given and as it went back, how serving it ended, and all that was answered on it
 pub record ServedConn (I O : Type 0) : Type 0 where

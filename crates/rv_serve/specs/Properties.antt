@@ -13,7 +13,7 @@ use Rattle.rv_serve.specs.Replies.{asked_of}
 use Rattle.rv_serve.specs.Talk.{Exchange, Talks, answered}
 use Rattle.rv_serve.specs.Listening.{ServedConn, ServesEach}
 use Rattle.rv_turns.specs.Asks.{Ask}
-use Rattle.rv_turns.specs.declared.outcome.Outcome.{Outcome}
+use Rattle.rv_turns.specs.declared.pushing.Outcome.{Outcome}
 use Rattle.rv_http.specs.declared.rejection.Rejection.{Rejection}
 use Rattle.rv_serve.specs.declared.http_answer.HttpAnswer.{HttpAnswer}
 use Rattle.rv_serve.specs.declared.http_answer.HttpAnswer.TheVariants.{Answered}

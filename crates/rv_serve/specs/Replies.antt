@@ -11,7 +11,7 @@ use Rattle.rv_accounts.specs.File.{AccountsServed as Accounts, user_in}
 use Rattle.rv_answering.specs.Requests.{Parsed, push_asked, pull_asked}
 use Rattle.rv_answering.specs.Steps.{HandlesActing}
 use Rattle.rv_turns.specs.Asks.{Ask}
-use Rattle.rv_turns.specs.declared.outcome.Outcome.{Outcome}
+use Rattle.rv_turns.specs.declared.pushing.Outcome.{Outcome}
 use Rattle.rv_http.specs.declared.rejection.Rejection.{Rejection}
 use Rattle.rv_http.specs.declared.rejection.Rejection.TheVariants as rejections
 use Rattle.rv_serve.specs.declared.http_answer.HttpAnswer.{HttpAnswer}

@@ -14,7 +14,7 @@ use Rattle.rv_serve.specs.Replies.{Responds}
 use Rattle.rv_serve.specs.Talk.{closes_at, exchange_text, heard_of, EndsWithText, EndsUnread}
 use Rattle.rv_serve.specs.Causes.{OutputCause}
 use Rattle.rv_turns.specs.Asks.{Ask}
-use Rattle.rv_turns.specs.declared.outcome.Outcome.{Outcome}
+use Rattle.rv_turns.specs.declared.pushing.Outcome.{Outcome}
 use Rattle.rv_http.specs.declared.rejection.Rejection.{Rejection}
 use Rattle.rv_http.specs.declared.rejection.Rejection.TheVariants as rejections
 use Rattle.rv_serve.specs.declared.http_answer.HttpAnswer.{HttpAnswer}

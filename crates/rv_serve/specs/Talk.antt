@@ -18,7 +18,7 @@ use Rattle.rv_serve.specs.Replies.{Responds}
 use Rattle.rv_serve.specs.Texts.{answer_text, http_status, rejection_text, memory_text}
 use Rattle.rv_serve.specs.declared.http_answer.HttpAnswer.{HttpAnswer}
 use Rattle.rv_turns.specs.Asks.{Ask}
-use Rattle.rv_turns.specs.declared.outcome.Outcome.{Outcome}
+use Rattle.rv_turns.specs.declared.pushing.Outcome.{Outcome}
 use Rattle.rv_http.specs.declared.rejection.Rejection.TheVariants as rejections
 use Rattle.rv_http.specs.declared.http_end.HttpEnd.TheVariants as reading
 

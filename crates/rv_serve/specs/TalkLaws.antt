@@ -15,7 +15,7 @@ use Rattle.rv_serve.specs.Talk.{AnswersEach, AnswersLast, Exchange, Talks}
 use Rattle.rv_serve.specs.Listening.{ServedConn, ServesAll, ServesConn, ServesEach, ServesPast}
 use Rattle.rv_net.specs.declared.listen.Listen.{Ghosts as ListenGhosts}
 use Rattle.rv_turns.specs.Asks.{Ask}
-use Rattle.rv_turns.specs.declared.outcome.Outcome.{Outcome}
+use Rattle.rv_turns.specs.declared.pushing.Outcome.{Outcome}
 use Rattle.rv_http.specs.declared.rejection.Rejection.{Rejection}
 use Rattle.rv_serve.specs.declared.http_answer.HttpAnswer.{HttpAnswer}
 use Rattle.rv_serve.specs.declared.http_answer.HttpAnswer.TheVariants.{Answered, Rejected}

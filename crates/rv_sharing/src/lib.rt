@@ -8,7 +8,6 @@
 
 mod gathering;
 mod lists;
-mod texts;
 mod viewers;
 mod views;
 

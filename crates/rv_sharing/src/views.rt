@@ -9,7 +9,7 @@ ghost use Rattle.rv_sharing.specs.Visible.{visible};
 
 use crate::gathering::{merged, rows_of};
 use crate::lists::{extent_of, has_list, may_see};
-use crate::texts::add;
+use crate::viewers::add;
 use rv_base::{Id, Memory, Sequence, Steps, User};
 use rv_rows::{Row, Tables, Visible};
 use std::alloc::Global;

@@ -6,8 +6,8 @@ use Rattle.rv_book.specs.declared.page.Page.{Page}
 use Rattle.rv_book.specs.Book.{Book, book_from, retired, size, with_entry}
 use Rattle.rv_views.specs.declared.cookie.Cookie.{Cookie}
 use Rattle.rv_views.specs.declared.cookie.Cookie.TheVariants.{Bare, Named}
-use Rattle.rv_turns.specs.declared.outcome.Outcome.{Outcome}
-use Rattle.rv_turns.specs.declared.outcome.Outcome.TheVariants.{Pulled, Refused}
+use Rattle.rv_turns.specs.declared.pushing.Outcome.{Outcome}
+use Rattle.rv_turns.specs.declared.pushing.Outcome.TheVariants.{Pulled, Refused}
 use Rattle.rv_turns.specs.declared.pull.PullReply.{PullReply}
 use Rattle.rv_turns.specs.declared.pull.PullRequest.{PullRequest}
 use Rattle.rv_turns.specs.declared.refusal.Refusal.{Refusal}

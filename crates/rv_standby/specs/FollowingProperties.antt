@@ -3,7 +3,7 @@
 use Rattle.std.specs.Prelude.{◌≡◌, ℕ, ◌+◌, ◌^◌, ◌<◌, ◌≤◌, ◌⊎◌, List, ◌∷◌, Result, Ok, Err}
 use Rattle.rv_book.specs.declared.entry.Entry.{Entry}
 use Rattle.rv_book.specs.Book.{Book, Extends, opening, size, with_entries, with_entry}
-use Rattle.rv_turns.specs.declared.outcome.Outcome.TheVariants.{Pulled}
+use Rattle.rv_turns.specs.declared.pushing.Outcome.TheVariants.{Pulled}
 use Rattle.rv_turns.specs.declared.pull.PullReply.{PullReply}
 use Rattle.rv_turns.specs.declared.pull.PullRequest.{PullRequest}
 use Rattle.rv_history.specs.Bases.{base_of}

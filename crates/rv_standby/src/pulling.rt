@@ -3,7 +3,7 @@ ghost use Rattle.std.specs.Prelude.{◌≡◌, ◌≤◌, ◌<◌, ◌+◌, ◌^
 ghost use Rattle.rv_book.specs.Book.{size};
 ghost use Rattle.rv_history.specs.Groups.{Admits};
 ghost use Rattle.rv_history.specs.Reading.{pull_steps};
-ghost use Rattle.rv_turns.specs.declared.outcome.Outcome.TheVariants.{Pulled};
+ghost use Rattle.rv_turns.specs.declared.pushing.Outcome.TheVariants.{Pulled};
 ghost use Rattle.rv_turns.specs.declared.pull.PullReply.{PullReply};
 ghost use Rattle.rv_wire.specs.Answers.{pull_json};
 ghost use Rattle.rv_history.specs.Properties.{ReplyTells};

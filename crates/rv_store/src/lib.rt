@@ -12,7 +12,6 @@ mod closing;
 mod comparing;
 mod entering;
 mod restoring;
-mod row_changes;
 mod view_changes;
 
 pub use changes::changes_for;

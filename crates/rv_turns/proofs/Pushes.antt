@@ -3,7 +3,7 @@ use Rattle.std.proofs.Common.{◌≡◌, Bool, true, false, ◌||◌, List, [], 
 use Rattle.std.specs.Option.{MatchOption}
 use Rattle.rv_turns.specs.declared.refusal.Refusal.{Refusal}
 use Rattle.rv_turns.specs.declared.mutation.Mutation.{Mutation}
-use Rattle.rv_turns.specs.declared.outcome.Outcome.{Outcome}
+use Rattle.rv_turns.specs.declared.pushing.Outcome.{Outcome}
 use Rattle.rv_turns.specs.Asks.{Sender, Ask}
 use Rattle.rv_turns.specs.Outcomes.{has_acted}
 use Rattle.rv_turns.specs.Pushing.{Pushes, Runs}

@@ -1,7 +1,7 @@
 -- What an outcome is told as.
 use Rattle.std.specs.Prelude.{Bool, true, false, Option, Some, None}
-use Rattle.rv_turns.specs.declared.outcome.Outcome.{Outcome}
-use Rattle.rv_turns.specs.declared.outcome.Outcome.TheVariants.{Acted, Refused}
+use Rattle.rv_turns.specs.declared.pushing.Outcome.{Outcome}
+use Rattle.rv_turns.specs.declared.pushing.Outcome.TheVariants.{Acted, Refused}
 use Rattle.rv_turns.specs.declared.refusal.Refusal.{Refusal}
 use Rattle.rv_turns.specs.declared.refusal.Refusal.TheVariants as refusals
 use Rattle.rv_turns.specs.declared.refusal.Trouble.{Trouble}

@@ -1,10 +1,10 @@
 use crate::asked::Asked;
-use crate::outcome::Outcome;
+use crate::pushing::Outcome;
 
 /// Who takes turns, one after another: each is taken at the state that the one before it left.
 pub trait Turns {
     ghost use Rattle.rv_turns.specs.Asks.{Ask, IsClosing, ask_of};
-    ghost use Rattle.rv_turns.specs.declared.outcome.Outcome.{Outcome};
+    ghost use Rattle.rv_turns.specs.declared.pushing.Outcome.{Outcome};
 
     /// A turn: a state, what is asked, what comes of it, and the next state.
     ghost takes: { Self → Ask → Outcome → Self → Type 0 };

@@ -6,8 +6,8 @@ use Rattle.rv_history.specs.Machine.{Step}
 use Rattle.rv_history.specs.Served.{Next, Served, with_next}
 use Rattle.rv_turns.specs.Asks.{Ask, Sender}
 use Rattle.rv_turns.specs.declared.mutation.Mutation.{Mutation}
-use Rattle.rv_turns.specs.declared.outcome.Outcome.{Outcome}
-use Rattle.rv_turns.specs.declared.outcome.Outcome.TheVariants.{Acted}
+use Rattle.rv_turns.specs.declared.pushing.Outcome.{Outcome}
+use Rattle.rv_turns.specs.declared.pushing.Outcome.TheVariants.{Acted}
 use Rattle.rv_state.specs.Ready.{next_of}
 use Rattle.rv_wire.specs.Answers.{pull_json}
 use Rattle.rv_doubt.specs.Keeping.{IsKept}

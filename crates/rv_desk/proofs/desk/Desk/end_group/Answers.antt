@@ -3,7 +3,7 @@ use Rattle.rv_book.specs.declared.entry.Entry.TheVariants.{Retire}
 use Rattle.rv_book.specs.Book.{size}
 use Rattle.rv_history.specs.Served.{Next}
 use Rattle.rv_turns.specs.Asks.{Ask}
-use Rattle.rv_turns.specs.declared.outcome.Outcome.TheVariants.{Retired}
+use Rattle.rv_turns.specs.declared.pushing.Outcome.TheVariants.{Retired}
 use Rattle.rv_desk.specs.DeskStates.{served}
 use Rattle.rv_desk.proofs.Settled.{not_kept}
 use Rattle.rv_desk.proofs.desk.Desk.end_group.Goals as goal

@@ -3,8 +3,8 @@ use Rattle.rv_base.specs.declared.fault.Fault.{Fault}
 use Rattle.rv_book.specs.Book.{size}
 use Rattle.rv_state.specs.Ready.{next_of}
 use Rattle.rv_turns.specs.Asks.{Ask}
-use Rattle.rv_turns.specs.declared.outcome.Outcome.{Outcome}
-use Rattle.rv_turns.specs.declared.outcome.Outcome.TheVariants.{Closed}
+use Rattle.rv_turns.specs.declared.pushing.Outcome.{Outcome}
+use Rattle.rv_turns.specs.declared.pushing.Outcome.TheVariants.{Closed}
 use Rattle.rv_wire.specs.Answers.{pull_json}
 use Rattle.rv_history.specs.Machine.{Step}
 use Rattle.rv_history.specs.Served.{with_next}

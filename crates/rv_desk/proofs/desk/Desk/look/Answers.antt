@@ -5,7 +5,7 @@ use Rattle.rv_history.specs.Bases.{base_of}
 use Rattle.rv_history.specs.Machine.{next_order, reply_to}
 use Rattle.rv_history.specs.Served.{Next}
 use Rattle.rv_turns.specs.Asks.{Ask}
-use Rattle.rv_turns.specs.declared.outcome.Outcome.TheVariants.{Pulled}
+use Rattle.rv_turns.specs.declared.pushing.Outcome.TheVariants.{Pulled}
 use Rattle.rv_wire.specs.Answers.{pull_json}
 use Rattle.rv_desk.specs.DeskStates.{served}
 use Rattle.rv_desk.proofs.Settled.{not_kept}
