@@ -76,7 +76,7 @@ impl<K: Keeper> Desk<K> {
     {
         let limit = self.state.book().limit();
         match self.keeper.load() {
-            Ok(loaded) => match restore(self.alloc, &loaded, limit) {
+            Ok(loaded) => match restore(self.alloc, loaded, limit) {
                 Ok(state) => {
                     self.state = state;
                     self.doubt = None;
@@ -163,7 +163,7 @@ impl<K: Keeper> Desk<K> {
         requires left { K.honest keeper → IsLoaded (K.may_leave keeper) loaded }
         ensures { OpensLoaded K.Keeper limit loaded keeper result }
     {
-        match restore(alloc, &loaded, limit) {
+        match restore(alloc, loaded, limit) {
             Ok(state) => Ok(Desk {
                 state,
                 doubt: None,

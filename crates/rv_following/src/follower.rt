@@ -11,7 +11,7 @@ use crate::follow_line::{FollowLine, ParsedPull};
 use json::Scratch;
 use rv_answering::Answer;
 use rv_base::{Steps, User};
-use rv_keeper::Cell;
+use rv_keeper::{Cell, Shelf};
 use rv_standby::{Standby, TakeFault};
 use std::alloc::Global;
 use std::marker::{Brand, Model};
@@ -34,7 +34,7 @@ impl Model for Follower {
 fn is_on_page(cell: &Cell) -> bool
     ensures { result ≡ on_page cell.now }
 {
-    5 < cell.shelf && cell.shelf < 10
+    Shelf::Views.number() < cell.shelf && cell.shelf <= Shelf::PageGroups.number()
 }
 
 impl Follower {

@@ -1,5 +1,5 @@
 // The calls that make, change and remove a todo.
-ghost use Rattle.std.specs.Prelude.{◌≡◌, IfOk, ◌&&◌, not};
+ghost use Rattle.std.specs.Prelude.{◌≡◌, IfOk, ◌&&◌, is_some, not};
 ghost use Rattle.rv_rows.specs.Held.{rows_in, AreRows};
 ghost use Rattle.rv_rows.specs.Keys.{key_text, has_row};
 ghost use Rattle.rv_rows.specs.Sharing.{may_edit};
@@ -14,7 +14,7 @@ use crate::lists::has_row;
 use crate::staged::Staged;
 use rv_base::{Id, Memory, Num, Text, User};
 use rv_rows::{Kind, Row, Tables, TodoRow};
-use rv_sharing::{may_edit, may_edit_list_of};
+use rv_sharing::{list_to_edit, may_edit_list_of};
 use std::alloc::Global;
 
 // A todo that is not there, at the end of a list that the user may edit.
@@ -30,25 +30,30 @@ pub(crate) fn create_todo(
     requires { AreRows tables.now.rows }
     ensures { IfOk result (λ s. s ≡ staged (rows_in tables.now.rows) user.now (CreateTodo id.now list.now text.now complete)) }
 {
-    if may_create(tables, user, id, list) {
-        let row = TodoRow {
-            id: id.copy(alloc)?,
-            list: list.copy(alloc)?,
-            text: text.copy(alloc)?,
-            complete,
-            sort: TodoRow::sort_after(tables.greatest_sort(list)),
-        };
-        Staged::writes(alloc, Row::Todo(row))
-    } else {
-        Ok(Staged::nothing(alloc))
+    match list_for(tables, user, id, list) {
+        Some(known) => {
+            let row = TodoRow {
+                id: id.copy(alloc)?,
+                list: list.copy(alloc)?.shared_with(alloc, known),
+                text: text.copy(alloc)?,
+                complete,
+                sort: TodoRow::sort_after(tables.greatest_sort(list)),
+            };
+            Staged::writes(alloc, Row::Todo(row))
+        }
+        None => Ok(Staged::nothing(alloc)),
     }
 }
 
-// Whether no todo has the id, and the user may edit the list.
-fn may_create(tables: &Tables, user: &User, id: &Id, list: &Id) -> bool
-    ensures { result ≡ (not (has_row (key_text (record { kind = TodoKind; id = id.now })) (rows_in tables.now.rows)) && may_edit user.now list.now (rows_in tables.now.rows)) }
+// The id of the list, as its row has it, where no todo has the id and the user may edit the list.
+fn list_for<'t>(tables: &'t Tables, user: &User, id: &Id, list: &Id) -> Option<&'t Id>
+    ensures { is_some result ≡ (not (has_row (key_text (record { kind = TodoKind; id = id.now })) (rows_in tables.now.rows)) && may_edit user.now list.now (rows_in tables.now.rows)) }
 {
-    !has_row(tables, Kind::Todo, id) && may_edit(tables, user, list)
+    if has_row(tables, Kind::Todo, id) {
+        None
+    } else {
+        list_to_edit(tables, user, list)
+    }
 }
 
 // The fields that are named, of a todo whose list the user may edit.

@@ -12,7 +12,7 @@ mod viewers;
 mod views;
 
 pub use lists::{
-    has_list, has_share, is_synced, may_edit, may_edit_list_of, may_see, owner_of, owns,
+    has_list, has_share, is_synced, list_to_edit, may_edit_list_of, may_see, owner_of, owns,
     owns_list_of,
 };
 pub use viewers::{add_if_synced, add_sharers, add_user, add_viewers, affected};

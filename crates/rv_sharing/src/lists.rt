@@ -1,5 +1,5 @@
 // Who owns a list, who may see it, who syncs it, and who may edit it.
-ghost use Rattle.std.specs.Prelude.{◌≡◌, option_map};
+ghost use Rattle.std.specs.Prelude.{◌≡◌, is_some, option_map};
 ghost use Rattle.std.specs.List.{list_any};
 ghost use Rattle.rv_rows.specs.Held.{rows_in, AreRows};
 ghost use Rattle.rv_rows.specs.Sharing.{is_list, is_synced, lets_edit, list_passes, may_edit, may_see, owns, shares};
@@ -8,17 +8,28 @@ ghost use Rattle.rv_sharing.specs.Owners.{row_owner, owner_of};
 
 use crate::viewers::is_todo;
 use rv_base::{Id, User};
-use rv_rows::{Kind, Lists, Row, Tables};
+use rv_rows::{Kind, ListRow, Lists, Row, Tables};
 
-// Whose the row is, where it is a list.
-fn row_owner(row: &Row) -> Option<&User>
-    ensures { option_map (λ owner. owner.now) result ≡ row_owner row.now }
+// The row, where it is a list.
+fn as_list(row: &Row) -> Option<&ListRow>
+    ensures { option_map (λ list. list.now.owner) result ≡ row_owner row.now }
 {
     match row {
         Row::Extent(_) => None,
-        Row::List(row) => Some(&row.owner),
+        Row::List(row) => Some(row),
         Row::Share(_) => None,
         Row::Todo(_) => None,
+    }
+}
+
+// The row of a list, where the list is there.
+fn list_row<'t>(tables: &'t Tables, list: &Id) -> Option<&'t ListRow>
+    ensures owner { option_map (λ row. row.now.owner) result ≡ owner_of list.now (rows_in tables.now.rows) }
+    ensures order { AreRows tables.now.rows }
+{
+    match tables.row(Kind::List, list) {
+        Some((row, _version)) => as_list(row),
+        None => None,
     }
 }
 
@@ -27,8 +38,8 @@ pub fn owner_of<'t>(tables: &'t Tables, list: &Id) -> Option<&'t User>
     ensures owner { option_map (λ owner. owner.now) result ≡ owner_of list.now (rows_in tables.now.rows) }
     ensures order { AreRows tables.now.rows }
 {
-    match tables.row(Kind::List, list) {
-        Some((row, _version)) => row_owner(row),
+    match list_row(tables, list) {
+        Some(row) => Some(&row.owner),
         None => None,
     }
 }
@@ -137,15 +148,28 @@ fn has_edit_share(tables: &Tables, user: &User, list: &Id) -> bool
     false
 }
 
-/// Whether the user may add, change and remove todos of the list: it is there, and the user owns it or a share of it names the
-/// user and has role edit. Takes no memory.
-pub fn may_edit(tables: &Tables, user: &User, list: &Id) -> bool
+/// The id of a list, as its row has it, where the user may add, change and remove todos of the list. Takes no memory.
+pub fn list_to_edit<'t>(tables: &'t Tables, user: &User, list: &Id) -> Option<&'t Id>
+    ensures { is_some result ≡ may_edit user.now list.now (rows_in tables.now.rows) }
+{
+    match list_row(tables, list) {
+        Some(row) => {
+            if row.owner == *user || has_edit_share(tables, user, list) {
+                Some(&row.id)
+            } else {
+                None
+            }
+        }
+        None => None,
+    }
+}
+
+// Whether the user may add, change and remove todos of the list: it is there, and the user owns it or a share of it names the user and has
+// role edit. Takes no memory.
+fn may_edit(tables: &Tables, user: &User, list: &Id) -> bool
     ensures { result ≡ may_edit user.now list.now (rows_in tables.now.rows) }
 {
-    match owner_of(tables, list) {
-        Some(owner) => owner == user || has_edit_share(tables, user, list),
-        None => false,
-    }
+    list_to_edit(tables, user, list).is_some()
 }
 
 /// Whether the user owns the list that the row is or belongs to. Takes no memory.

@@ -18,7 +18,6 @@ use Rattle.rv_keeper.specs.declared.cell.Cell.{Cell}
 use Rattle.rv_record.specs.ListLaws.{all-append}
 use Rattle.rv_record.specs.CellTexts.{AreTexts, entry_cell}
 use Rattle.rv_store.specs.StoreCells.{entry_cells}
-use Rattle.rv_store.proofs.Entered.{length-entry_cells}
 use Rattle.rv_standby.specs.Shipping.{HasFailed, Ships, ShipsSteadily, cell_data, cell_line}
 
 abbrev pub Done : Type 0
@@ -149,6 +148,10 @@ none_next book before from none below =
     let index : before + 1 - (book.page.at + 1) ≡ before - book.page.at = omega (arith, from) in
     let le = none_at book.entries (before - book.page.at) (none ∙ entry_at-index (before + 1) book (omega (arith, from)) ∙ ap (slice_get book.entries) index) in
     omega (arith, from, below, le)
+
+length-entry_cells : (place : ℕ) (entries : List Entry) → length (entry_cells place entries) ≡ length entries
+length-entry_cells place [] = refl
+length-entry_cells place (e ∷ entries) = ap suc (length-entry_cells (place + 1) entries)
 
 pub entries_end : (book : Book) (before : ℕ) → size book ≤ before → length (entry_cells (book.page.at + 1) book.entries) ≤ before - book.page.at
 entries_end book before le = omega (arith, le, length-entry_cells (book.page.at + 1) book.entries)

@@ -2,27 +2,11 @@
 ghost use Rattle.std.specs.Prelude.{◌≡◌};
 ghost use Rattle.rv_book.specs.Registers.{RetiresBound};
 
-use rv_base::{Bounded, Id, Memory, User};
+use rv_base::{Id, User};
 use rv_book::{Book, Entry, Found};
-use rv_rows::{Call, Kind, Row, Tables};
+use rv_mutators::Staged;
+use rv_rows::{Call, Row};
 use std::alloc::Global;
-
-// The text, which shares what a known one of the same bytes has. Takes no memory.
-fn same_text<const MIN: usize, const MAX: usize>(
-    alloc: Global,
-    text: Bounded<MIN, MAX>,
-    known: &Bounded<MIN, MAX>,
-) -> Bounded<MIN, MAX>
-    ensures { result ≡ text.entry }
-{
-    if text != *known {
-        return text;
-    }
-    match known.copy(alloc) {
-        Ok(shared) => shared,
-        Err(Memory) => text,
-    }
-}
 
 // The group and the user, as the book has them.
 fn known_group(alloc: Global, book: &Book, group: Id, user: User, found: Found) -> (Id, User)
@@ -31,8 +15,8 @@ fn known_group(alloc: Global, book: &Book, group: Id, user: User, found: Found) 
 {
     match book.group_at(found.group) {
         Some(told) => (
-            same_text(alloc, group, told.group),
-            same_text(alloc, user, told.user),
+            group.shared_with(alloc, told.group),
+            user.shared_with(alloc, told.user),
         ),
         None => (group, user),
     }
@@ -43,7 +27,7 @@ fn known_client(alloc: Global, book: &Book, client: Id, found: Found) -> Id
     ensures { result ≡ client }
 {
     match book.client_at(found.client) {
-        Some(told) => same_text(alloc, client, told.client),
+        Some(told) => client.shared_with(alloc, told.client),
         None => client,
     }
 }
@@ -89,18 +73,18 @@ pub(crate) fn with_known_names(alloc: Global, book: &Book, entry: Entry, found: 
     }
 }
 
-// The list, as its row has it.
-fn known_list(alloc: Global, tables: &Tables, list: Id) -> Id
+// The list, as the todo that is written has it.
+fn known_list(alloc: Global, staged: &Staged, list: Id) -> Id
     ensures { result ≡ list }
 {
-    match tables.row(Kind::List, &list) {
-        Some((Row::List(row), _version)) => same_text(alloc, list, &row.id),
+    match staged.rows.as_slice().first() {
+        Some(Row::Todo(row)) => list.shared_with(alloc, &row.list),
         _ => list,
     }
 }
 
-/// The call, whose list shares the text that the list's row has. Takes no memory.
-pub(crate) fn with_known_list(alloc: Global, tables: &Tables, call: Call) -> Call
+/// The call, whose list shares the text that the todo has which it writes. Takes no memory.
+pub(crate) fn with_known_list(alloc: Global, staged: &Staged, call: Call) -> Call
     ensures { result ≡ call }
 {
     match call {
@@ -111,7 +95,7 @@ pub(crate) fn with_known_list(alloc: Global, tables: &Tables, call: Call) -> Cal
             complete,
         } => Call::CreateTodo {
             id,
-            list: known_list(alloc, tables, list),
+            list: known_list(alloc, staged, list),
             text,
             complete,
         },

@@ -189,7 +189,6 @@ impl State {
         let user = user.copy(self.alloc)?;
         let group = group.copy(self.alloc)?;
         let client = client.copy(self.alloc)?;
-        let call = with_known_list(self.alloc, &self.tables, call);
         self.ready_act(user, group, client, id, call, found)
     }
 
@@ -284,7 +283,6 @@ impl State {
                 call,
             } => {
                 let found = find(&self.book, &group, &client);
-                let call = with_known_list(self.alloc, &self.tables, call);
                 self.ready_act(user, group, client, id, call, found)
             }
             Entry::Look {
@@ -321,6 +319,7 @@ impl State {
         act_fits(&user, &group, &client, id, &call);
         reserve(&mut self.book)?;
         let (staged, concerned) = self.stage_act(&user, &call)?;
+        let call = with_known_list(self.alloc, &staged, call);
         Ok(Prepared::Act(PreparedAct {
             user,
             group,

@@ -1,5 +1,5 @@
 -- What opens from cells that are parted by their shelves: those before a page's, the page's, and those behind.
-use Rattle.std.proofs.Common.{◌≡◌, ℕ, zero, suc, ◌+◌, ◌-◌, ◌<◌, ◌≤◌, ◌&&◌, Bool, true, false, not, nat_lt, List, [], ◌∷◌, ◌++◌, length, get_or, take, drop, Option, Some, None, IfSome, Result, Ok, Err, IsErrAnd, refl, sym, ap, ◌∙◌, subst, arith, inl, inr, length-append, append-nil, append_assoc}
+use Rattle.std.proofs.Common.{◌≡◌, ℕ, zero, suc, ◌+◌, ◌<◌, ◌≤◌, ◌&&◌, Bool, true, false, not, nat_le, nat_lt, List, [], ◌∷◌, ◌++◌, length, get_or, take, drop, Option, Some, None, Result, Ok, Err, IsErrAnd, refl, sym, ap, ◌∙◌, subst, arith, inl, inr, append-nil, append_assoc}
 use Rattle.std.specs.List.{AllByRecursion}
 use Rattle.std.specs.List.Sorted.{IsPartitionedBy}
 use Rattle.std.proofs.lemmas.Bool.Decides.{nat_tests}
@@ -20,12 +20,12 @@ use Rattle.rv_record.specs.PageCells.{on_page, page_cells}
 use Rattle.rv_record.specs.PageReads.{ReadsPage}
 use Rattle.rv_state.specs.Standing.{Standing}
 use Rattle.rv_store.specs.Opening.{BreaksAt, HasEntries, IsDamaged, IsPageOf, MayOpen, Restores, another, breaks, breaks_page, differs, other_shelves, page_shelves}
-use Rattle.rv_store.specs.OpeningSteps.{ComparesOthers, EntersAll, Stands, page_or_none}
+use Rattle.rv_store.specs.OpeningSteps.{ComparesOthers, EntersAll, page_or_none}
 use Rattle.rv_store.specs.StoreBookLaws.{are_on_page, other_shelves-all, other_shelves-none, page_shelves-all, page_shelves-none}
-use Rattle.rv_store.specs.ShelfLaws.{lower_shelf}
+use Rattle.rv_store.specs.ShelfLaws.{all-append, lower_shelf}
 use Rattle.rv_store.specs.StoreCells.{AreDerived, derived_cells, entry_cells}
 use Rattle.rv_store.proofs.Behind.{derived-low, front_in_order}
-use Rattle.rv_store.proofs.Entered.{length-entry_cells, shelf_below}
+use Rattle.rv_store.proofs.Entered.{shelf_below}
 
 -- ---- A cut.
 
@@ -42,7 +42,7 @@ rising (x ∷ xs) zero (suc j) d order le below = later_shelf x xs j d order.0 (
 rising (x ∷ xs) (suc i) zero d order le below = absurd (omega (arith, le))
 rising (x ∷ xs) (suc i) (suc j) d order le below = rising xs i j d order.1 (omega (arith, le)) (omega arith)
 
-pub parted : (shelf : ℕ) (xs : List Cell) → InOrder cell_key xs → IsPartitionedBy (λ cell. nat_lt cell.shelf shelf) xs
+pub parted : (shelf : ℕ) (xs : List Cell) → InOrder cell_key xs → IsPartitionedBy (λ cell. nat_le cell.shelf shelf) xs
 parted shelf xs order = λ i j d le below passes. let rises = rising xs i j d order le below in grind (arith, nat_tests)
 
 pub all_taken : (P : Cell → Type 0) (n : ℕ) (xs : List Cell) → ((k : ℕ) (d : Cell) → k < n → k < length xs → P (get_or xs k d)) → AllByRecursion P (take n xs)
@@ -72,18 +72,18 @@ low_off (cell ∷ cells) all = (ap (λ (b : Bool). b && nat_lt cell.shelf 10) (n
     no_less : cell.shelf < 6 → nat_lt 5 cell.shelf ≡ false
     no_less low = grind (arith, nat_tests)
 
-far_off : (cells : List Cell) → AllByRecursion (λ cell. 10 ≤ cell.shelf) cells → AllByRecursion (λ cell. on_page cell ≡ false) cells
+far_off : (cells : List Cell) → AllByRecursion (λ cell. 9 < cell.shelf) cells → AllByRecursion (λ cell. on_page cell ≡ false) cells
 far_off [] all = tt
 far_off (cell ∷ cells) all = (both (nat_lt 5 cell.shelf) (no_less all.0), far_off cells all.1)
   where
-    no_less : 10 ≤ cell.shelf → nat_lt cell.shelf 10 ≡ false
+    no_less : 9 < cell.shelf → nat_lt cell.shelf 10 ≡ false
     no_less high = grind (arith, nat_tests)
 
     both : (a : Bool) → nat_lt cell.shelf 10 ≡ false → (a && nat_lt cell.shelf 10) ≡ false
     both true is = is
     both false is = refl
 
-within : (cells : List Cell) → AllByRecursion (λ cell. 6 ≤ cell.shelf) cells → AllByRecursion (λ cell. cell.shelf < 10) cells → AllByRecursion (λ cell. (5 < cell.shelf) × (cell.shelf < 10)) cells
+within : (cells : List Cell) → AllByRecursion (λ cell. 5 < cell.shelf) cells → AllByRecursion (λ cell. cell.shelf < 10) cells → AllByRecursion (λ cell. (5 < cell.shelf) × (cell.shelf < 10)) cells
 within [] from to = tt
 within (cell ∷ cells) from to = ((omega (arith, from.0), to.0), within cells from.1 to.1)
 
@@ -91,24 +91,20 @@ pub all_front : (P : Cell → Type 0) (xs ys : List Cell) → AllByRecursion P (
 all_front P [] ys all = tt
 all_front P (x ∷ xs) ys all = (all.0, all_front P xs ys all.1)
 
-pub weaker_far : (cells : List Cell) → AllByRecursion (λ cell. 10 ≤ cell.shelf) cells → AllByRecursion (λ cell. 9 < cell.shelf) cells
-weaker_far [] all = tt
-weaker_far (cell ∷ cells) all = (omega (arith, all.0), weaker_far cells all.1)
-
 -- the cells before a page's, the page's, and those behind
 pub record Parted (all front paged behind : List Cell) : Type 0 where
   pub whole : all ≡ front ++ (paged ++ behind)
   pub low : AllByRecursion (λ cell. cell.shelf < 6) front
-  pub from : AllByRecursion (λ cell. 6 ≤ cell.shelf) paged
+  pub from : AllByRecursion (λ cell. 5 < cell.shelf) paged
   pub to : AllByRecursion (λ cell. cell.shelf < 10) paged
-  pub far : AllByRecursion (λ cell. 10 ≤ cell.shelf) behind
+  pub far : AllByRecursion (λ cell. 9 < cell.shelf) behind
 
-pub parts_of : (all front rest paged behind : List Cell) → all ≡ front ++ rest → AllByRecursion (λ cell. cell.shelf < 6) front → AllByRecursion (λ cell. 6 ≤ cell.shelf) rest → rest ≡ paged ++ behind → AllByRecursion (λ cell. cell.shelf < 10) paged → AllByRecursion (λ cell. 10 ≤ cell.shelf) behind
+pub parts_of : (all front rest paged behind : List Cell) → all ≡ front ++ rest → AllByRecursion (λ cell. cell.shelf < 6) front → AllByRecursion (λ cell. 5 < cell.shelf) rest → rest ≡ paged ++ behind → AllByRecursion (λ cell. cell.shelf < 10) paged → AllByRecursion (λ cell. 9 < cell.shelf) behind
     → Parted all front paged behind
 parts_of all front rest paged behind whole low from more to far = record {
   whole = whole ∙ ap (λ (cells : List Cell). front ++ cells) more;
   low = low;
-  from = all_front (λ cell. 6 ≤ cell.shelf) paged behind (subst (AllByRecursion (λ cell. 6 ≤ cell.shelf)) more from);
+  from = all_front (λ cell. 5 < cell.shelf) paged behind (subst (AllByRecursion (λ cell. 5 < cell.shelf)) more from);
   to = to;
   far = far;
 }
@@ -125,10 +121,6 @@ module _ (all front paged behind : List Cell) (p : Parted all front paged behind
       ∙ (λ i. other_shelves-all front (low_off front p.low) i ++ (filter-append (λ cell. not (on_page cell)) paged behind ∙ (λ j. other_shelves-none paged (are_on_page paged (within paged p.from p.to)) j ++ other_shelves-all behind (far_off behind p.far) j)) i)
 
 -- ---- The page that was read.
-
-pub read_stands : (limit : ℕ) (cells : List Cell) (page : Option PageRead) → ReadsPage limit cells (Ok page) → IfSome page (Stands limit)
-read_stands limit cells None read = tt
-read_stands limit cells (Some read) told = record { from = told.0.from; within = told.0.within; sound = told.0.sound; fits = told.0.fits; tables = told.1 }
 
 page_of : (limit : ℕ) (cells : List Cell) (page : Option PageRead) → ReadsPage limit cells (Ok page) → IsPageOf limit cells (page_or_none page)
 page_of limit cells None none = inl (none, refl)
@@ -175,11 +167,11 @@ module _ (limit : ℕ) (loaded : Loaded) (front paged behind : List Cell) (p : P
     entries_fail fault (Err (BadCell damage)) fails enters = breaks opened is_page (breaks_longer damage (subst (λ (f : CellFault). EntersAll limit opened front (Err f)) (sym fails) enters))
     entries_fail fault (Err Memory) fails enters = tt
 
-    far_beside : (cells : List Cell) → AllByRecursion (λ cell. 10 ≤ cell.shelf) cells → AllByRecursion (λ cell. 2 ≤ cell.shelf) cells
+    far_beside : (cells : List Cell) → AllByRecursion (λ cell. 9 < cell.shelf) cells → AllByRecursion (λ cell. 1 < cell.shelf) cells
     far_beside [] all = tt
     far_beside (cell ∷ cells) all = (omega (arith, all.0), far_beside cells all.1)
 
-    beside_both : (xs ys : List Cell) → AllByRecursion (λ cell. 2 ≤ cell.shelf) xs → AllByRecursion (λ cell. 2 ≤ cell.shelf) ys → AllByRecursion (λ cell. 2 ≤ cell.shelf) (xs ++ ys)
+    beside_both : (xs ys : List Cell) → AllByRecursion (λ cell. 1 < cell.shelf) xs → AllByRecursion (λ cell. 1 < cell.shelf) ys → AllByRecursion (λ cell. 1 < cell.shelf) (xs ++ ys)
     beside_both [] ys all also = also
     beside_both (x ∷ xs) ys all also = (all.0, beside_both xs ys all.1 also)
 
@@ -199,13 +191,10 @@ module _ (limit : ℕ) (loaded : Loaded) (front paged behind : List Cell) (p : P
           differs opened is_page (record { book = state.book; others = others ++ behind; own = told.0; entries = has_longer; derived = told.1; difference = told.2 })
       others_fail fault (Err Memory) fails compares = tt
 
-      pub seen_fail : (seen : List Cell) → seen ≡ others → (fault : CellFault) (r : Result Standing CellFault) → IsErrAnd r (λ d. d ≡ fault) → ComparesOthers state.book (seen ++ behind) (Err fault) → Restores limit loaded r
-      seen_fail seen same fault r fails compares = others_fail fault r fails (subst (λ (cells : List Cell). ComparesOthers state.book (cells ++ behind) (Err fault)) same compares)
-
       pub other_generation : (damage : Damage) → AreDerived state.book (others ++ behind) → ¬ (loaded.generation ≡ size state.book) → damage ≡ record { shelf = 0; key = [] } → IsDamaged limit loaded damage
       other_generation damage derived apart is = another opened is_page (record { book = state.book; others = others ++ behind; entries = has_longer; derived = derived; generation = apart; at = is })
 
-      none_behind : (xs ys : List Cell) → AllByRecursion (λ cell. cell.shelf < 10) (xs ++ ys) → AllByRecursion (λ cell. 10 ≤ cell.shelf) ys → ys ≡ []
+      none_behind : (xs ys : List Cell) → AllByRecursion (λ cell. cell.shelf < 10) (xs ++ ys) → AllByRecursion (λ cell. 9 < cell.shelf) ys → ys ≡ []
       none_behind [] [] low far = refl
       none_behind [] (y ∷ ys) low far = absurd (omega (arith, low.0, far.0))
       none_behind (x ∷ xs) ys low far = none_behind xs ys low.1 far
@@ -233,27 +222,13 @@ module _ (limit : ℕ) (loaded : Loaded) (front paged behind : List Cell) (p : P
             };
           }
 
--- there are as many cells as entries, at least
-pub count_within : (limit : ℕ) (page : Page) (book : Book) (cells others : List Cell) → HasEntries limit page book cells others → length book.entries ≤ length cells
-count_within limit page book cells others has = omega (arith, ap length has.cells, length-append (entry_cells (page.at + 1) book.entries) others, length-entry_cells (page.at + 1) book.entries)
+-- ---- What stands beside the cells of the entries and of a page.
 
--- ---- What is left of the cells before a page's, with those behind.
-
-pub low_after : (n : ℕ) (cells : List Cell) → AllByRecursion (λ cell. cell.shelf < 6) cells → AllByRecursion (λ cell. cell.shelf < 6) (drop n cells)
-low_after zero cells all = all
-low_after (suc n) [] all = tt
-low_after (suc n) (cell ∷ cells) all = low_after n cells all.1
-
-order_after : (n : ℕ) (cells : List Cell) → InOrder cell_key cells → InOrder cell_key (drop n cells)
-order_after zero cells order = order
-order_after (suc n) [] order = tt
-order_after (suc n) (cell ∷ cells) order = order_after n cells order.1
-
-low_far : (xs ys : List Cell) → AllByRecursion (λ cell. cell.shelf < 6) xs → AllByRecursion (λ cell. 10 ≤ cell.shelf) ys → InOrder cell_key xs → InOrder cell_key ys → InOrder cell_key (xs ++ ys)
+low_far : (xs ys : List Cell) → AllByRecursion (λ cell. cell.shelf < 6) xs → AllByRecursion (λ cell. 9 < cell.shelf) ys → InOrder cell_key xs → InOrder cell_key ys → InOrder cell_key (xs ++ ys)
 low_far [] ys low far order also = also
 low_far (x ∷ xs) ys low far order also = (above xs order.0, low_far xs ys low.1 far order.1 also)
   where
-    higher : (zs : List Cell) → AllByRecursion (λ cell. 10 ≤ cell.shelf) zs → Above cell_key (cell_key x) zs
+    higher : (zs : List Cell) → AllByRecursion (λ cell. 9 < cell.shelf) zs → Above cell_key (cell_key x) zs
     higher [] all = tt
     higher (z ∷ zs) all = (lower_shelf x.shelf z.shelf x.key z.key (omega (arith, low.0, all.0)), higher zs all.1)
 
@@ -261,11 +236,41 @@ low_far (x ∷ xs) ys low far order also = (above xs order.0, low_far xs ys low.
     above [] all = higher ys far
     above (z ∷ zs) all = (all.0, above zs all.1)
 
-pub without_page : (all front paged behind : List Cell) → Parted all front paged behind → InOrder cell_key all → (n : ℕ) → InOrder cell_key (drop n front ++ behind)
-without_page all front paged behind p order n =
-    let whole = subst (InOrder cell_key) p.whole order in
-    low_far (drop n front) behind (low_after n front p.low) p.far (order_after n front (front_in_order front (paged ++ behind) whole)) (behind_in_order paged behind (behind_in_order front (paged ++ behind) whole))
+pub without_page : (entries derived paged behind : List Cell) → InOrder cell_key (entries ++ (derived ++ (paged ++ behind))) → AllByRecursion (λ cell. cell.shelf < 6) derived → AllByRecursion (λ cell. 9 < cell.shelf) behind → InOrder cell_key (derived ++ behind)
+without_page entries derived paged behind order low far =
+    let others = behind_in_order entries (derived ++ (paged ++ behind)) order in
+    low_far derived behind low far (front_in_order derived (paged ++ behind) others) (behind_in_order paged behind (behind_in_order derived (paged ++ behind) others))
 
--- what was left of the cells is what stands behind as many as the entries
-pub same_others : (whole from : ℕ) (cells others : List Cell) (book : Book) → whole ≡ size book → from ≡ book.page.at → others ≡ drop (whole - from) cells → others ≡ drop (length book.entries) cells
-same_others whole from cells others book long at are = let n : whole - from ≡ length book.entries = omega (arith, long, at) in are ∙ ap (λ (k : ℕ). drop k cells) n
+-- ---- The entries with the cells after them.
+
+first_low : (cells : List Cell) → AllByRecursion (λ cell. cell.shelf ≡ 1) cells → AllByRecursion (λ cell. cell.shelf < 6) cells
+first_low [] all = tt
+first_low (cell ∷ cells) all = (omega (arith, all.0), first_low cells all.1)
+
+-- the cells of the entries and those that follow from the book stand before a page's
+pub front_of : (all entries others derived rest paged behind : List Cell) → all ≡ entries ++ others → AllByRecursion (λ cell. cell.shelf ≡ 1) entries → others ≡ derived ++ rest → AllByRecursion (λ cell. cell.shelf < 6) derived → AllByRecursion (λ cell. 5 < cell.shelf) rest
+    → rest ≡ paged ++ behind → AllByRecursion (λ cell. cell.shelf < 10) paged → AllByRecursion (λ cell. 9 < cell.shelf) behind → Parted all (entries ++ derived) paged behind
+front_of all entries others derived rest paged behind whole first parts low from more to far =
+    parts_of all (entries ++ derived) rest paged behind (whole ∙ ap (λ (cells : List Cell). entries ++ cells) parts ∙ sym (append_assoc entries derived rest))
+    (all-append (λ cell. cell.shelf < 6) entries derived (first_low entries first) low) from more to far
+
+pub fails_longer : (limit : ℕ) (page : Page) (entries derived : List Cell) (fault : CellFault) → EntersAll limit page entries (Err fault) → EntersAll limit page (entries ++ derived) (Err fault)
+fails_longer limit page entries derived (BadCell damage) b = record {
+  book = b.book;
+  cell = b.cell;
+  others = b.others ++ derived;
+  opens = b.opens;
+  cells = ap (λ (cells : List Cell). cells ++ derived) b.cells ∙ append_assoc (entry_cells (page.at + 1) b.book.entries) (b.cell ∷ b.others) derived;
+  sound = b.sound;
+  broken = b.broken;
+  at = b.at;
+}
+fails_longer limit page entries derived Memory enters = tt
+
+pub has_derived : (limit : ℕ) (page : Page) (book : Book) (entries others derived rest : List Cell) → HasEntries limit page book entries [] → others ≡ derived ++ rest → AllByRecursion (λ cell. 1 < cell.shelf) others → HasEntries limit page book (entries ++ derived) derived
+has_derived limit page book entries others derived rest has parts beside = record {
+  opens = has.opens;
+  cells = ap (λ (cells : List Cell). cells ++ derived) (has.cells ∙ append-nil (entry_cells (page.at + 1) book.entries));
+  beside = all_front (λ cell. 1 < cell.shelf) derived rest (subst (AllByRecursion (λ cell. 1 < cell.shelf)) parts beside);
+  sound = has.sound;
+}

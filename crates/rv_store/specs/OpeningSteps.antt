@@ -1,6 +1,6 @@
 -- What the steps of opening answer: the entries are entered one after another, and then the other cells of their book are
 -- compared with the loaded ones.
-use Rattle.std.specs.Prelude.{◌≡◌, ℕ, ◌+◌, ◌≤◌, List, ◌++◌, drop, length, Option, Result, Ok, Err}
+use Rattle.std.specs.Prelude.{◌≡◌, ℕ, ◌+◌, ◌≤◌, List, [], ◌++◌, Option, Result, Ok, Err}
 use Rattle.std.specs.Option.{option_map_or}
 use Rattle.rv_base.specs.Sorted.{InOrder}
 use Rattle.rv_book.specs.declared.page.Page.{Page}
@@ -28,10 +28,10 @@ pub record Stands (limit : ℕ) (read : PageRead) : Type 0 where
 abbrev pub page_or_none : Option PageRead → Page
 page_or_none read = option_map_or (λ r. r.page) read no_page
 
--- What is answered when all entries are entered: the state of their book, beside which the cells have what stands on the
--- shelves from 2 on; or the cell that breaks off.
+-- What is answered when all entries are entered: the state of their book, whose entries' cells are just these; or the cell that
+-- breaks off.
 abbrev pub EntersAll : ℕ → Page → List Cell → Result Standing CellFault → Type 0
-EntersAll limit page cells (Ok state) = HasEntries limit page state.book cells (drop (length state.book.entries) cells) × (state.limit ≡ limit)
+EntersAll limit page cells (Ok state) = HasEntries limit page state.book cells [] × (state.limit ≡ limit)
 EntersAll limit page cells (Err (BadCell damage)) = BreaksAt limit page cells damage
 EntersAll limit page cells (Err Memory) = Unit {0}
 
