@@ -28,6 +28,9 @@ WORDS = {
     "chunks?|chunked|chunking": ("some items of an order, or of a body", r"rv_(chunks|rows|keeper|http)"),
     "looks?|looked|looking": ("a look of the book, or at a mark", r"(?!rv_(json|net|place)$)\w+"),
     "told": ("what was shown, or is known", r"(?!rv_book$)\w+"),
+    "records?|recorded": ("a view record, or a record of a CSV text", r"rv_(views|news|record|state|store|desk|csv|import|cli)"),
+    "clos(e|ed|es|ing)": ("a closed book, a keeper's or a room's end, or what HTTP and WebSocket call so", r"(?!rv_(base|book|chunks|rows|json|lines|views|sharing|mutators|news|record|csv|import|sqlite|accounts|doubt|standby|following)$)\w+"),
+    "entries": ("entries of a book", r"rv_(book|history|keeper|record|state|store|room|make|report|plain|standby|cli)"),
     "places?|placed": ("a place of the book, or where stores are", r"(?!rv_(json|chunks)$)\w+"),
 }
 ITEM = re.compile(r"(?:pub )(?:const |unsafe )?(?:fn|struct|enum|trait|const|type|static) (\w+)")
