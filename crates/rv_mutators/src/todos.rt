@@ -1,5 +1,5 @@
 // The calls that make, change and remove a todo.
-ghost use Rattle.std.specs.Prelude.{◌≡◌, IfOk, ◌&&◌, is_some, not};
+ghost use Rattle.std.specs.Prelude.{◌≡◌, IfOk, IfSome, ◌&&◌, is_some, not};
 ghost use Rattle.rv_rows.specs.Held.{rows_in, AreRows};
 ghost use Rattle.rv_rows.specs.Keys.{key_text, has_row};
 ghost use Rattle.rv_rows.specs.Sharing.{may_edit};
@@ -34,7 +34,7 @@ pub(crate) fn create_todo(
         Some(known) => {
             let row = TodoRow {
                 id: id.copy(alloc)?,
-                list: list.copy(alloc)?.shared_with(alloc, known),
+                list: known.copy(alloc)?,
                 text: text.copy(alloc)?,
                 complete,
                 sort: TodoRow::sort_after(tables.greatest_sort(list)),
@@ -47,7 +47,8 @@ pub(crate) fn create_todo(
 
 // The id of the list, as its row has it, where no todo has the id and the user may edit the list.
 fn list_for<'t>(tables: &'t Tables, user: &User, id: &Id, list: &Id) -> Option<&'t Id>
-    ensures { is_some result ≡ (not (has_row (key_text (record { kind = TodoKind; id = id.now })) (rows_in tables.now.rows)) && may_edit user.now list.now (rows_in tables.now.rows)) }
+    ensures allowed { is_some result ≡ (not (has_row (key_text (record { kind = TodoKind; id = id.now })) (rows_in tables.now.rows)) && may_edit user.now list.now (rows_in tables.now.rows)) }
+    ensures id { IfSome result (λ known. known.now ≡ list.now) }
 {
     if has_row(tables, Kind::Todo, id) {
         None

@@ -1,18 +1,21 @@
 -- Laws of owners: among rows of which no two have one key, the owner of a list decides whether the list is there, who owns
 -- it, and who may see it.
-use Rattle.std.proofs.Common.{◌≡◌, ℕ, Bool, true, false, cond, List, [], ◌∷◌, Option, Some, None, refl, sym, ap, ◌∙◌, subst, ◌||◌, ◌&&◌}
+use Rattle.std.proofs.Common.{◌≡◌, ℕ, Bool, true, false, cond, List, [], ◌∷◌, Option, Some, None, IfSome, refl, sym, ap, ◌∙◌, subst, ◌||◌, ◌&&◌}
 use Rattle.std.specs.List.{list_any}
 use Rattle.std.specs.Option.{is_some, option_map, option_map_or, option_and_then}
 use Rattle.std.specs.Str.{bytes_eq}
+use Rattle.std.proofs.lemmas.List.{append_cancel_left}
 use Rattle.std.proofs.lemmas.Slice.Eq.{bytes_eq-Decides}
 use Rattle.rv_base.specs.Sorted.{Distinct}
 use Rattle.rv_base.specs.ArrangedLaws.{find-map}
 use Rattle.rv_rows.specs.declared.key.Kind.TheVariants as kinds
+use Rattle.rv_rows.specs.declared.row.ListRow.{ListRow}
 use Rattle.rv_rows.specs.declared.row.Row.{Row}
 use Rattle.rv_rows.specs.declared.row.Row.TheVariants as variants
-use Rattle.rv_rows.specs.Keys.{key_text, row_text, row_at}
-use Rattle.rv_rows.specs.Held.{Stored, rows_in, find, AreRows}
+use Rattle.rv_rows.specs.Keys.{prefix, key_text, row_text, row_at}
+use Rattle.rv_rows.specs.Held.{Stored, rows_in, find, stored_key, AreRows}
 use Rattle.rv_rows.specs.HeldLaws.{distinct-rows}
+use Rattle.rv_rows.proofs.SlotLaws.{found_key}
 use Rattle.rv_rows.specs.Sharing.{is_list, owns, shares, may_see, lets_edit, may_edit}
 use Rattle.rv_sharing.specs.Owners.{row_owner, owner_of}
 use Rattle.rv_sharing.specs.SameTextLaws.{same_either_way}
@@ -104,6 +107,13 @@ owner-found list stored = joined (find (list_key list) stored) ∙ ap (λ (o : O
     joined : (o : Option Stored) → option_and_then (λ (s : Stored). row_owner s.0) o ≡ option_and_then row_owner (option_map (λ (s : Stored). s.0) o)
     joined None = refl
     joined (Some s) = refl
+
+-- a list that is found in a table by the text of a list's key is that list
+pub id-found : {X : Type 0} (view : X → ListRow) (o : Option X) (list : List ℕ) (stored : List Stored) (row : Row) (version : ℕ) → Some (row, version) ≡ find (list_key list) stored → IfSome o (λ x. row ≡ variants.List (view x))
+    → IfSome o (λ x. (view x).id ≡ list)
+id-found view None list stored row version is same = tt
+id-found view (Some x) list stored row version is same =
+    sym (append_cancel_left (prefix kinds.List) list (view x).id (found_key stored_key (list_key list) stored (row, version) (sym is) ∙ ap row_text same))
 
 -- who may see a list of a table, by what is known of its owner
 pub may_see-owned : (user list owner : List ℕ) (stored : List Stored) → AreRows stored → Some owner ≡ owner_of list (rows_in stored) → may_see user list (rows_in stored) ≡ (bytes_eq owner user || list_any (shares user list) (rows_in stored))

@@ -15,7 +15,7 @@ use Rattle.rv_rows.specs.declared.row.TodoRow.{TodoRow}
 use Rattle.rv_rows.specs.declared.row.Row.TheVariants as variants
 use Rattle.rv_rows.specs.Keys.{key_text, row_text, row_at}
 use Rattle.rv_rows.specs.Held.{Stored, rows_in, find, stored_key, AreRows}
-use Rattle.rv_rows.specs.Sharing.{belongs, shares, may_see, is_synced, is_extent, sees_list, sees_row, lets_edit, list_of, list_passes, user_of}
+use Rattle.rv_rows.specs.Sharing.{belongs, shares, is_synced, is_extent, sees_list, sees_row, lets_edit, list_of, list_passes, user_of}
 use Rattle.rv_sharing.specs.Owners.{owner_of}
 use Rattle.rv_sharing.specs.SameTextLaws.{same_either_way, at_same}
 use Rattle.rv_sharing.proofs.OwnerLaws.{picked, may_see-owned, may_see-absent}

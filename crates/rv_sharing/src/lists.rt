@@ -1,7 +1,8 @@
 // Who owns a list, who may see it, who syncs it, and who may edit it.
-ghost use Rattle.std.specs.Prelude.{◌≡◌, is_some, option_map};
+ghost use Rattle.std.specs.Prelude.{◌≡◌, IfSome, is_some, option_map};
 ghost use Rattle.std.specs.List.{list_any};
 ghost use Rattle.rv_rows.specs.Held.{rows_in, AreRows};
+ghost use Rattle.rv_rows.specs.declared.row.Row.TheVariants.{List as AList};
 ghost use Rattle.rv_rows.specs.Sharing.{is_list, is_synced, lets_edit, list_passes, may_edit, may_see, owns, shares};
 ghost use Rattle.rv_sharing.specs.Extents.{row_lists, extent_of, is_named};
 ghost use Rattle.rv_sharing.specs.Owners.{row_owner, owner_of};
@@ -12,7 +13,8 @@ use rv_rows::{Kind, ListRow, Lists, Row, Tables};
 
 // The row, where it is a list.
 fn as_list(row: &Row) -> Option<&ListRow>
-    ensures { option_map (λ list. list.now.owner) result ≡ row_owner row.now }
+    ensures owner { option_map (λ list. list.now.owner) result ≡ row_owner row.now }
+    ensures row { IfSome result (λ list. row.now ≡ AList list.now) }
 {
     match row {
         Row::Extent(_) => None,
@@ -25,6 +27,7 @@ fn as_list(row: &Row) -> Option<&ListRow>
 // The row of a list, where the list is there.
 fn list_row<'t>(tables: &'t Tables, list: &Id) -> Option<&'t ListRow>
     ensures owner { option_map (λ row. row.now.owner) result ≡ owner_of list.now (rows_in tables.now.rows) }
+    ensures id { IfSome result (λ row. row.now.id ≡ list.now) }
     ensures order { AreRows tables.now.rows }
 {
     match tables.row(Kind::List, list) {
@@ -150,7 +153,8 @@ fn has_edit_share(tables: &Tables, user: &User, list: &Id) -> bool
 
 /// The id of a list, as its row has it, where the user may add, change and remove todos of the list. Takes no memory.
 pub fn list_to_edit<'t>(tables: &'t Tables, user: &User, list: &Id) -> Option<&'t Id>
-    ensures { is_some result ≡ may_edit user.now list.now (rows_in tables.now.rows) }
+    ensures allowed { is_some result ≡ may_edit user.now list.now (rows_in tables.now.rows) }
+    ensures id { IfSome result (λ id. id.now ≡ list.now) }
 {
     match list_row(tables, list) {
         Some(row) => {

@@ -13,7 +13,7 @@ returns-then-has_edit_share c =
       | then-eq w ↦ (let is : bytes_eq c.in-Some.row.now.owner c.args.user.now ≡ true = sym c.eq.ensures ∙ w.if-eq.true in rw (same, is) (w.value-is ∙ w.if-eq.true))
       | else-eq w ↦ (let is : bytes_eq c.in-Some.row.now.owner c.args.user.now ≡ false = sym c.eq.ensures ∙ w.if-eq.false in rw (same, is) (w.value-is ∙ w.has_edit_share.ensures))
     ] in
-    sym c.if-has_edit_share.true ∙ value
+    record { allowed = sym c.if-has_edit_share.true ∙ value; id = c.in-Some.ensures.id }
 
 pub returns-else-has_edit_share : goal.returns-else-has_edit_share
 returns-else-has_edit_share c =
@@ -22,7 +22,7 @@ returns-else-has_edit_share c =
       | then-eq w ↦ (let is : bytes_eq c.in-Some.row.now.owner c.args.user.now ≡ true = sym c.eq.ensures ∙ w.if-eq.true in rw (same, is) (w.value-is ∙ w.if-eq.true))
       | else-eq w ↦ (let is : bytes_eq c.in-Some.row.now.owner c.args.user.now ≡ false = sym c.eq.ensures ∙ w.if-eq.false in rw (same, is) (w.value-is ∙ w.has_edit_share.ensures))
     ] in
-    sym c.if-has_edit_share.false ∙ value
+    record { allowed = sym c.if-has_edit_share.false ∙ value; id = tt }
 
 pub returns-in-None : goal.returns-in-None
-returns-in-None c = sym (may_edit-absent c.args.user.now c.args.list.now c.args.tables.now.rows c.in-None.ensures.order c.in-None.ensures.owner)
+returns-in-None c = record { allowed = sym (may_edit-absent c.args.user.now c.args.list.now c.args.tables.now.rows c.in-None.ensures.order c.in-None.ensures.owner); id = tt }

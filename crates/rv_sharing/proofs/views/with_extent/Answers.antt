@@ -1,7 +1,7 @@
 use Rattle.std.proofs.Common.{◌+◌, List, length, sym, ap, ◌∙◌, arith}
 use Rattle.std.proofs.lemmas.Result.{IfOk-weaker}
 use Rattle.rv_rows.specs.Held.{Stored, put}
-use Rattle.rv_sharing.specs.Gathered.{extents, merged, rows_at}
+use Rattle.rv_sharing.specs.Gathered.{merged, rows_at}
 use Rattle.rv_sharing.proofs.ExtentLaws.{extents-found, extents-absent}
 use Rattle.rv_sharing.proofs.views.with_extent.Goals as goal
 
