@@ -1,23 +1,28 @@
 -- Laws of owners: among rows of which no two have one key, the owner of a list decides whether the list is there, who owns
 -- it, and who may see it.
-use Rattle.std.proofs.Common.{◌≡◌, ℕ, Bool, true, false, cond, List, [], ◌∷◌, Option, Some, None, IfSome, refl, sym, ap, ◌∙◌, subst, ◌||◌, ◌&&◌}
-use Rattle.std.specs.List.{list_any}
+use Rattle.std.proofs.Common.{◌≡◌, ℕ, Bool, true, false, cond, List, [], ◌∷◌, Option, Some, None, IfSome, drop, refl, sym, ap, ◌∙◌, subst, ◌||◌, ◌&&◌}
+use Rattle.std.specs.declared.cmp.Ordering.TheVariants.{Less, Greater}
+use Rattle.std.specs.List.{AllByRecursion, filter, list_any}
 use Rattle.std.specs.Option.{is_some, option_map, option_map_or, option_and_then}
 use Rattle.std.specs.Str.{bytes_eq}
 use Rattle.std.proofs.lemmas.List.{append_cancel_left}
+use Rattle.std.proofs.lemmas.Option.{none-some}
 use Rattle.std.proofs.lemmas.Slice.Eq.{bytes_eq-Decides}
 use Rattle.rv_base.specs.Sorted.{Distinct}
+use Rattle.rv_base.specs.PositionLaws.{Above, in_order-filter}
 use Rattle.rv_base.specs.ArrangedLaws.{find-map}
 use Rattle.rv_rows.specs.declared.key.Kind.TheVariants as kinds
 use Rattle.rv_rows.specs.declared.row.ListRow.{ListRow}
 use Rattle.rv_rows.specs.declared.row.Row.{Row}
+use Rattle.rv_rows.specs.declared.row.ShareRow.{ShareRow}
+use Rattle.rv_rows.specs.declared.row.TodoRow.{TodoRow}
 use Rattle.rv_rows.specs.declared.row.Row.TheVariants as variants
 use Rattle.rv_rows.specs.Keys.{prefix, key_text, row_text, row_at}
 use Rattle.rv_rows.specs.Held.{Stored, rows_in, find, stored_key, AreRows}
 use Rattle.rv_rows.specs.HeldLaws.{distinct-rows}
 use Rattle.rv_rows.proofs.SlotLaws.{found_key}
-use Rattle.rv_rows.specs.Sharing.{is_list, owns, shares, may_see, lets_edit, may_edit}
-use Rattle.rv_sharing.specs.Owners.{row_owner, owner_of}
+use Rattle.rv_rows.specs.Sharing.{belongs, is_list, owns, shares, may_see, lets_edit, may_edit}
+use Rattle.rv_sharing.specs.Owners.{row_owner, first_owner, owner_of}
 use Rattle.rv_sharing.specs.SameTextLaws.{same_either_way}
 
 -- the text of a list's key
@@ -133,3 +138,75 @@ may_edit-absent user list stored order is = may_edit-owner user list (rows_in st
 pub owns-found : (user list : List ℕ) (stored : List Stored) (owner : Option (List ℕ)) → AreRows stored → owner ≡ owner_of list (rows_in stored)
     → option_map_or (λ owner. bytes_eq owner user) owner false ≡ list_any (owns user list) (rows_in stored)
 owns-found user list stored owner order is = ap (λ (o : Option (List ℕ)). option_map_or (λ owner. bytes_eq owner user) o false) is ∙ sym (owns-owner user list (rows_in stored) (distinct-rows stored order))
+
+-- the owner of a list is told by the rows of that list
+own_owner : (list : List ℕ) (stored : List Stored) → owner_of list (rows_in (filter (λ s. belongs list s.0) stored)) ≡ owner_of list (rows_in stored)
+own_owner list [] = refl
+own_owner list ((variants.Extent row, version) ∷ stored) = own_owner list stored
+own_owner list ((variants.List row, version) ∷ stored) =
+    let own : List Stored = filter (λ s. belongs list s.0) stored in
+    ap (λ (b : Bool). owner_of list (rows_in (cond b ((variants.List row, version) ∷ own) own))) (same_either_way row.id list)
+    ∙ elim (bytes_eq list row.id) as (λ b. bytes_eq list row.id ≡ b → owner_of list (rows_in (cond b ((variants.List row, version) ∷ own) own)) ≡ option_and_then row_owner (cond b (Some (variants.List row)) (row_at (list_key list) (rows_in stored)))) [
+      | true ↦ λ e. ap (λ (b : Bool). option_and_then row_owner (cond b (Some (variants.List row)) (row_at (list_key list) (rows_in own)))) e
+      | false ↦ λ e. own_owner list stored
+    ] refl
+own_owner list ((variants.Share row, version) ∷ stored) =
+    elim (bytes_eq row.list list) as (λ b. owner_of list (rows_in (cond b ((variants.Share row, version) ∷ filter (λ s. belongs list s.0) stored) (filter (λ s. belongs list s.0) stored))) ≡ owner_of list (rows_in stored)) [
+      | true ↦ own_owner list stored
+      | false ↦ own_owner list stored
+    ]
+own_owner list ((variants.Todo row, version) ∷ stored) =
+    elim (bytes_eq row.list list) as (λ b. owner_of list (rows_in (cond b ((variants.Todo row, version) ∷ filter (λ s. belongs list s.0) stored) (filter (λ s. belongs list s.0) stored))) ≡ owner_of list (rows_in stored)) [
+      | true ↦ own_owner list stored
+      | false ↦ own_owner list stored
+    ]
+
+-- no list comes after a share or a todo
+none_after-share : (row : ShareRow) (list : List ℕ) (rest : List Stored) → Above stored_key (row_text (variants.Share row)) rest → None ≡ owner_of list (rows_in rest)
+none_after-share row list [] all = refl
+none_after-share row list ((variants.Extent next, version) ∷ rest) all = absurd (let below : Less ≡ Greater = sym all.0 in cc)
+none_after-share row list ((variants.List next, version) ∷ rest) all = absurd (let below : Less ≡ Greater = sym all.0 in cc)
+none_after-share row list ((variants.Share next, version) ∷ rest) all = none_after-share row list rest all.1
+none_after-share row list ((variants.Todo next, version) ∷ rest) all = none_after-share row list rest all.1
+
+none_after-todo : (row : TodoRow) (list : List ℕ) (rest : List Stored) → Above stored_key (row_text (variants.Todo row)) rest → None ≡ owner_of list (rows_in rest)
+none_after-todo row list [] all = refl
+none_after-todo row list ((variants.Extent next, version) ∷ rest) all = absurd (let below : Less ≡ Greater = sym all.0 in cc)
+none_after-todo row list ((variants.List next, version) ∷ rest) all = absurd (let below : Less ≡ Greater = sym all.0 in cc)
+none_after-todo row list ((variants.Share next, version) ∷ rest) all = none_after-todo row list rest all.1
+none_after-todo row list ((variants.Todo next, version) ∷ rest) all = none_after-todo row list rest all.1
+
+all_belong : (list : List ℕ) (stored : List Stored) → AllByRecursion (λ s. belongs list s.0 ≡ true) (filter (λ s. belongs list s.0) stored)
+all_belong list [] = tt
+all_belong list (s ∷ stored) =
+    elim (belongs list s.0) as (λ b. belongs list s.0 ≡ b → AllByRecursion (λ s. belongs list s.0 ≡ true) (cond b (s ∷ filter (λ s. belongs list s.0) stored) (filter (λ s. belongs list s.0) stored))) [
+      | true ↦ λ e. (e, all_belong list stored)
+      | false ↦ λ _. all_belong list stored
+    ] refl
+
+first_tells : (list : List ℕ) (own : List Stored) → AreRows own → AllByRecursion (λ s. belongs list s.0 ≡ true) own → first_owner own ≡ owner_of list (rows_in own)
+first_tells list [] order all = refl
+first_tells list ((variants.Extent row, version) ∷ rest) order all = absurd (let both : false ≡ true = all.0 in cc)
+first_tells list ((variants.List row, version) ∷ rest) order all =
+    ap (λ (b : Bool). option_and_then row_owner (cond b (Some (variants.List row)) (row_at (list_key list) (rows_in rest)))) (sym (sym (same_either_way row.id list) ∙ all.0))
+first_tells list ((variants.Share row, version) ∷ rest) order all = none_after-share row list rest order.0
+first_tells list ((variants.Todo row, version) ∷ rest) order all = none_after-todo row list rest order.0
+
+-- the first of the rows of a list tells its owner
+pub owner-first : (list : List ℕ) (stored own : List Stored) → AreRows stored → own ≡ filter (λ s. belongs list s.0) stored → first_owner own ≡ owner_of list (rows_in stored)
+owner-first list stored own order is =
+    ap first_owner is
+    ∙ first_tells list (filter (λ s. belongs list s.0) stored) (in_order-filter stored_key (λ s. belongs list s.0) stored order) (all_belong list stored)
+    ∙ own_owner list stored
+
+-- the rows behind the list's own have all of its shares
+pub shares-behind : (user list owner : List ℕ) (own : List Stored) → Some owner ≡ first_owner own → list_any (shares user list) (rows_in (drop 1 own)) ≡ list_any (shares user list) (rows_in own)
+shares-behind user list owner [] e = absurd (none-some owner (sym e))
+shares-behind user list owner ((variants.Extent row, version) ∷ rest) e = absurd (none-some owner (sym e))
+shares-behind user list owner ((variants.List row, version) ∷ rest) e = refl
+shares-behind user list owner ((variants.Share row, version) ∷ rest) e = absurd (none-some owner (sym e))
+shares-behind user list owner ((variants.Todo row, version) ∷ rest) e = absurd (none-some owner (sym e))
+
+pub order-behind : (own : List Stored) → AreRows own → AreRows (drop 1 own)
+order-behind [] order = tt
+order-behind (s ∷ rest) order = order.1

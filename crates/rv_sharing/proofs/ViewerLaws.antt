@@ -7,7 +7,7 @@ use Rattle.std.specs.Option.{option_map, option_map_or}
 use Rattle.std.specs.Str.{bytes_eq}
 use Rattle.std.proofs.lemmas.List.{take_all}
 use Rattle.std.proofs.lemmas.List.Folds.{list_any_more}
-use Rattle.rv_base.specs.PositionLaws.{Above, in_order-filter}
+use Rattle.rv_base.specs.PositionLaws.{Above}
 use Rattle.rv_base.specs.ArrangedLaws.{find-map}
 use Rattle.rv_rows.specs.declared.key.Key.{Key}
 use Rattle.rv_rows.specs.declared.row.Row.{Row}
@@ -124,9 +124,10 @@ none_behind user list rows rest next s todo first is order told = sym (subst (λ
     nothing : (s : Stored) → s.0 ≡ variants.Todo todo → AreRows (s ∷ next) → (shares user list s.0 || list_any (shares user list) (rows_in next)) ≡ false
     nothing s is order = rw is (no_shares user list todo next (subst (λ (row : Row). Above stored_key (row_text row) next) is order.0))
 
-pub adding_begins : (list : List ℕ) (stored rest : List Stored) (before users : List (List ℕ)) → AreRows stored → AreInOrder before → users ≡ before → rest ≡ filter (λ s. belongs list s.0) stored → Adding list (rows_in stored) before users rest
-adding_begins list stored rest before users rows order same own =
-    rw (same, own) (record { order = order; rest_order = in_order-filter stored_key (λ s. belongs list s.0) stored rows; each = λ user. ap (λ (b : Bool). list_any (bytes_eq user) before || (b && is_synced user list (rows_in stored))) (shares-own user list stored) })
+pub adding_begins : (list : List ℕ) (rows : List Row) (rest got : List Stored) (before users : List (List ℕ)) → AreRows rest → AreInOrder before → users ≡ before → got ≡ rest → ((user : List ℕ) → list_any (shares user list) (rows_in rest) ≡ list_any (shares user list) rows)
+    → Adding list rows before users got
+adding_begins list rows rest got before users sorted order same same_rest shared =
+    rw (same, same_rest) (record { order = order; rest_order = sorted; each = λ user. ap (λ (b : Bool). list_any (bytes_eq user) before || (b && is_synced user list rows)) (shared user) })
 
 pub adding_more : (list : List ℕ) (rows : List Row) (rest next : List Stored) (s : Stored) (user : List ℕ) (before users after : List (List ℕ)) → rest ≡ s ∷ next → Some user ≡ sharer list rows s.0 → AddsText user users after
     → Adding list rows before users rest → Adding list rows before after next

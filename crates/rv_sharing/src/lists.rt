@@ -1,15 +1,15 @@
 // Who owns a list, who may see it, who syncs it, and who may edit it.
-ghost use Rattle.std.specs.Prelude.{◌≡◌, IfSome, is_some, option_map};
+ghost use Rattle.std.specs.Prelude.{◌≡◌, IfSome, drop, is_some, option_map};
 ghost use Rattle.std.specs.List.{list_any};
 ghost use Rattle.rv_rows.specs.Held.{rows_in, AreRows};
 ghost use Rattle.rv_rows.specs.declared.row.Row.TheVariants.{List as AList};
 ghost use Rattle.rv_rows.specs.Sharing.{is_list, is_synced, lets_edit, list_passes, may_edit, may_see, owns, shares};
 ghost use Rattle.rv_sharing.specs.Extents.{row_lists, extent_of, is_named};
-ghost use Rattle.rv_sharing.specs.Owners.{row_owner, owner_of};
+ghost use Rattle.rv_sharing.specs.Owners.{row_owner, first_owner, owner_of};
 
 use crate::viewers::is_todo;
 use rv_base::{Id, User};
-use rv_rows::{Kind, ListRow, Lists, Row, Tables};
+use rv_rows::{Kind, ListRow, Lists, Row, RowsInOrder, Tables};
 
 // The row, where it is a list.
 fn as_list(row: &Row) -> Option<&ListRow>
@@ -21,6 +21,17 @@ fn as_list(row: &Row) -> Option<&ListRow>
         Row::List(row) => Some(row),
         Row::Share(_) => None,
         Row::Todo(_) => None,
+    }
+}
+
+// The row of a list, by the first of its rows: where the list is there it stands before its shares and its todos.
+pub(crate) fn first_list<'t>(rows: &mut RowsInOrder<'t>) -> Option<&'t ListRow>
+    ensures owner { option_map (λ list. list.now.owner) result ≡ first_owner rows.old }
+    ensures rest { rows.new ≡ drop 1 rows.old }
+{
+    match rows.next() {
+        Some((row, _version)) => as_list(row),
+        None => None,
     }
 }
 

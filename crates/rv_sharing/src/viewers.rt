@@ -1,10 +1,11 @@
 // The users who see something of a table; ids or users in the order of their bytes, each once.
-ghost use Rattle.std.specs.Prelude.{◌≡◌, IsTrue, IfOk, OnOk, option_map};
+ghost use Rattle.std.specs.Prelude.{◌≡◌, ℕ, List, IsTrue, IfOk, OnOk, option_map};
+ghost use Rattle.std.specs.List.{list_any};
 ghost use Rattle.std.specs.Cmp.Lexicographic.{slice_cmp};
 ghost use Rattle.std.specs.Ordering.{nat_cmp};
 ghost use Rattle.rv_base.specs.Sorted.{IsPositionOf};
-ghost use Rattle.rv_rows.specs.Held.{rows_in};
-ghost use Rattle.rv_rows.specs.Sharing.{is_synced};
+ghost use Rattle.rv_rows.specs.Held.{rows_in, AreRows};
+ghost use Rattle.rv_rows.specs.Sharing.{is_synced, shares};
 ghost use Rattle.rv_rows.specs.declared.row.TodoRow.{TodoRow};
 ghost use Rattle.rv_rows.specs.declared.row.Row.TheVariants.{Todo};
 ghost use Rattle.rv_sharing.specs.Texts.{AreInOrder, AddsText, AddsTextIf};
@@ -13,9 +14,9 @@ ghost use Rattle.rv_sharing.specs.Extents.{row_extent};
 ghost use Rattle.rv_sharing.specs.Sharers.{sharer, AddsSharers};
 ghost use Rattle.rv_sharing.specs.Affected.{AddsViewers, AreAffected};
 
-use crate::lists::{is_synced, owner_of};
+use crate::lists::{first_list, is_synced};
 use rv_base::{Bounded, Id, Memory, Sequence, User};
-use rv_rows::{Key, Row, Tables, Users};
+use rv_rows::{Key, Row, RowsInOrder, Tables, Users};
 use std::alloc::Global;
 use std::cmp::Ordering;
 
@@ -108,14 +109,22 @@ pub(crate) fn is_todo(row: &Row) -> bool
     }
 }
 
-/// The users and those whom a share of the list names and who sync it. They stand in the order of their bytes, each once. The
-/// list's todos, which come after its shares, are not looked at.
-pub fn add_sharers(alloc: Global, users: Users, tables: &Tables, list: &Id) -> Result<Users, Memory>
-    requires { AreInOrder users }
+// The users and those whom one of these rows, a share of the list, names and who sync it. They stand in the order of their bytes, each
+// once. Todos, which come after all shares, are not looked at.
+fn add_named(
+    alloc: Global,
+    users: Users,
+    tables: &Tables,
+    list: &Id,
+    rows: RowsInOrder<'_>,
+) -> Result<Users, Memory>
+    requires users { AreInOrder users }
+    requires order { AreRows rows }
+    requires shares { (user : List ℕ) → list_any (shares user list.now) (rows_in rows) ≡ list_any (shares user list.now) (rows_in tables.now.rows) }
     ensures { IfOk result (AddsSharers (rows_in tables.now.rows) list.now users) }
 {
     let mut users = users.into_vec();
-    for (row, _version) in tables.of_list(list) {
+    for (row, _version) in rows {
         if is_todo(row) {
             return Ok(Sequence::from_vec(users));
         }
@@ -126,15 +135,25 @@ pub fn add_sharers(alloc: Global, users: Users, tables: &Tables, list: &Id) -> R
     Ok(Sequence::from_vec(users))
 }
 
-/// The users and those who see the list. They stand in the order of their bytes, each once.
+/// The users and those whom a share of the list names and who sync it. They stand in the order of their bytes, each once. The
+/// list's todos are not looked at.
+pub fn add_sharers(alloc: Global, users: Users, tables: &Tables, list: &Id) -> Result<Users, Memory>
+    requires { AreInOrder users }
+    ensures { IfOk result (AddsSharers (rows_in tables.now.rows) list.now users) }
+{
+    add_named(alloc, users, tables, list, tables.of_list(list))
+}
+
+/// The users and those who see the list. They stand in the order of their bytes, each once. The list's todos are not looked at.
 pub fn add_viewers(alloc: Global, users: Users, tables: &Tables, list: &Id) -> Result<Users, Memory>
     requires { AreInOrder users }
     ensures { IfOk result (AddsViewers (rows_in tables.now.rows) list.now users) }
 {
-    match owner_of(tables, list) {
-        Some(owner) => {
-            let owned = add_if_synced(alloc, users, tables, owner, list)?;
-            add_sharers(alloc, owned, tables, list)
+    let mut rows = tables.of_list(list);
+    match first_list(&mut rows) {
+        Some(row) => {
+            let owned = add_if_synced(alloc, users, tables, &row.owner, list)?;
+            add_named(alloc, owned, tables, list, rows)
         }
         None => Ok(users),
     }

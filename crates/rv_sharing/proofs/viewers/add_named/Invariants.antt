@@ -1,6 +1,6 @@
 use Rattle.rv_rows.specs.Held.{rows_in}
 use Rattle.rv_sharing.proofs.ViewerLaws.{Adding}
-use Rattle.rv_sharing.proofs.viewers.add_sharers.Given as goal
+use Rattle.rv_sharing.proofs.viewers.add_named.Given as goal
 
 abbrev pub invariant-loop-row : goal.invariant-loop-row
 invariant-loop-row l = record {
