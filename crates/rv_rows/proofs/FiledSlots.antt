@@ -1,12 +1,12 @@
 -- The slots of the rows that are filed under one text stand together in an order by what rows are filed under, and are in the
 -- order of their keys where those come then.
-use Rattle.std.proofs.Common.{◌≡◌, ℕ, zero, suc, ◌<◌, ◌≤◌, Bool, true, false, cond, List, [], ◌∷◌, length, get_or, refl, sym, ap, ◌∙◌, subst, arith, nat_lt}
+use Rattle.std.proofs.Common.{◌≡◌, ℕ, zero, suc, ◌<◌, ◌≤◌, Bool, true, false, not, cond, List, [], ◌∷◌, length, get_or, refl, sym, ap, ◌∙◌, subst, arith, nat_lt}
 use Rattle.std.specs.declared.cmp.Ordering.{Ordering}
 use Rattle.std.specs.declared.cmp.Ordering.TheVariants.{Less, Equal, Greater}
 use Rattle.std.specs.Ordering.{nat_cmp, is_lt, is_le, is_eq, ordering_index}
 use Rattle.std.specs.Cmp.Lexicographic.{slice_cmp}
 use Rattle.std.specs.Str.{bytes_eq}
-use Rattle.std.specs.List.{filter, AllByRecursion}
+use Rattle.std.specs.List.{filter, list_any, AllByRecursion}
 use Rattle.std.specs.List.Sorted.{IsPartitionedBy}
 use Rattle.std.proofs.lemmas.Bool.Decides.{nat_tests}
 use Rattle.std.proofs.lemmas.Map.Text.{is_eq-slice_cmp}
@@ -19,10 +19,10 @@ use Rattle.rv_rows.specs.Held.{Stored, stored_key, AreRows}
 use Rattle.rv_rows.specs.declared.filing.Filing.{Filing}
 use Rattle.rv_rows.specs.declared.row.Row.{Row}
 use Rattle.rv_rows.specs.Keys.{row_text}
-use Rattle.rv_rows.specs.Filed.{filed, under, then_by, filed_key}
-use Rattle.rv_rows.specs.Slots.{row_of, standing, by_slot, is_under, AreSlots, IsFiled}
+use Rattle.rv_rows.specs.Filed.{filed, under, is_filed, then_by, filed_key}
+use Rattle.rv_rows.specs.Slots.{row_of, standing, by_slot, filed_slots, is_under, AreSame, AreSlots, IsFiled}
 use Rattle.rv_rows.proofs.FiledLaws.{filed-below, filed-rises}
-use Rattle.rv_rows.proofs.SlotLaws.{by_flag, same_orders, same-filter, in_order-slots, all-filter}
+use Rattle.rv_rows.proofs.SlotLaws.{by_flag, same_orders, same-filter, filter-within, in_order-slots, all-filter}
 
 -- a list that is not above another stands below a third where the other does
 NotAbove : List ℕ → List ℕ → Type 0
@@ -159,14 +159,28 @@ filter-standing p slots (x ∷ os) =
 pub filed_under : (by : Filing) (slots : List Stored) (order : List ℕ) (text : List ℕ) → InOrder (filed_key by) (standing slots order) → InOrder (λ i. filed_key by (row_of slots i)) (filter (is_under by text slots) order)
 filed_under by slots order text sorted = in_order-filter (λ (i : ℕ). filed_key by (row_of slots i)) (is_under by text slots) order (in_order-slots (filed_key by) (row_of slots) order sorted)
 
+-- a row that is filed under a text that is not empty is filed
+filed_own : (by : Filing) (text : List ℕ) (row : Row) → 1 ≤ length text → bytes_eq (under by row) text ≡ true → is_filed by row ≡ true
+filed_own by text row some own = told text some (sym ((bytes_eq-Decides (under by row) text).0 own))
+  where
+    told : (text : List ℕ) → 1 ≤ length text → text ≡ under by row → is_filed by row ≡ true
+    told [] some is = absurd (omega arith)
+    told (x ∷ text) some is = ap (λ (l : List ℕ). not (bytes_eq l [])) (sym is)
+
+-- so an order has the same slots under it as all
+pub own_slots : (by : Filing) (slots : List Stored) (by_key order : List ℕ) (text : List ℕ) → 1 ≤ length text → AreSame (filed_slots by slots by_key) order → AreSame (filter (is_under by text slots) order) (filter (is_under by text slots) by_key)
+own_slots by slots by_key order text some same test =
+    same-filter (is_under by text slots) order (filed_slots by slots by_key) (λ p. sym (same p)) test
+    ∙ (λ i. list_any test (filter-within (is_under by text slots) (λ o. is_filed by (row_of slots o).0) by_key (λ o own. filed_own by text (row_of slots o).0 some own) i))
+
 -- the rows that are filed under a text in the one order are those in the other
-pub filed_rows : (by : Filing) (slots : List Stored) (by_key order found : List ℕ) (rows : List Stored) (text : List ℕ) → GoesByKeys by → AreRows (standing slots by_key) → IsFiled by slots by_key order → standing slots by_key ≡ rows → found ≡ filter (is_under by text slots) order
+pub filed_rows : (by : Filing) (slots : List Stored) (by_key order found : List ℕ) (rows : List Stored) (text : List ℕ) → GoesByKeys by → 1 ≤ length text → AreRows (standing slots by_key) → IsFiled by slots by_key order → standing slots by_key ≡ rows → found ≡ filter (is_under by text slots) order
     → standing slots found ≡ filter (λ s. bytes_eq (under by s.0) text) rows
-filed_rows by slots by_key order found rows text plain sorted is rows_are found_is =
+filed_rows by slots by_key order found rows text plain some sorted is rows_are found_is =
     let own : ℕ → Bool = is_under by text slots in
     let keys : InOrder (λ i. stored_key (row_of slots i)) (filter own by_key) = in_order-filter (λ (i : ℕ). stored_key (row_of slots i)) own by_key (in_order-slots stored_key (row_of slots) by_key sorted) in
     let filed : InOrder (λ i. filed_key by (row_of slots i)) (filter own order) = filed_under by slots order text is.in_order in
-    let same : filter own order ≡ filter own by_key = same_orders (λ i. filed_key by (row_of slots i)) (filter own order) (filter own by_key) filed (within_text by (row_of slots) text (filter own by_key) plain (all_under by text slots by_key) keys) (same-filter own order by_key (λ p. sym (is.same p))) in
+    let same : filter own order ≡ filter own by_key = same_orders (λ i. filed_key by (row_of slots i)) (filter own order) (filter own by_key) filed (within_text by (row_of slots) text (filter own by_key) plain (all_under by text slots by_key) keys) (own_slots by slots by_key order text some is.same) in
     ap (standing slots) (found_is ∙ same)
     ∙ sym (filter-standing (λ s. bytes_eq (under by s.0) text) slots by_key)
     ∙ ap (filter (λ s. bytes_eq (under by s.0) text)) rows_are

@@ -1,5 +1,5 @@
 -- Rows in slots, and the four orders of the slots, as rows come and go.
-use Rattle.std.proofs.Common.{◌≡◌, ◌≢◌, ℕ, zero, suc, ◌+◌, ◌-◌, ◌<◌, Bool, true, false, cond, ◌||◌, not, eqb, List, [], ◌∷◌, ◌++◌, map, length, get_or, set, Option, Result, Some, None, Ok, refl, sym, ap, ◌∙◌, subst, arith, nat_lt, get_or-set_same, get_or-set_other}
+use Rattle.std.proofs.Common.{◌≡◌, ◌≢◌, ℕ, zero, suc, ◌+◌, ◌-◌, ◌<◌, Bool, true, false, cond, ◌||◌, ◌&&◌, not, eqb, List, [], ◌∷◌, ◌++◌, map, length, get_or, set, Option, Result, Some, None, Ok, refl, sym, ap, ◌∙◌, subst, arith, nat_lt, get_or-set_same, get_or-set_other}
 use Rattle.std.specs.Ordering.{nat_cmp}
 use Rattle.std.specs.Cmp.Lexicographic.{slice_cmp}
 use Rattle.std.specs.List.{AllByRecursion, list_any, filter, insert, remove}
@@ -21,10 +21,10 @@ use Rattle.rv_rows.specs.declared.filing.Filing.{Filing}
 use Rattle.rv_rows.specs.declared.filing.Filing.TheVariants as filings
 use Rattle.rv_rows.specs.Sharing.{user_of}
 use Rattle.rv_rows.specs.declared.row.Row.{Row}
-use Rattle.rv_rows.specs.Filed.{filed, falling, sort_of, filed_text, filed_key, under}
-use Rattle.rv_rows.specs.Slots.{no_row, row_of, standing, by_slot, AreSlots, AreSame, IsFiled, HasOrders, relabelled, renamed, Vacates}
+use Rattle.rv_rows.specs.Filed.{filed, falling, is_filed, sort_of, filed_text, filed_key, under}
+use Rattle.rv_rows.specs.Slots.{no_row, row_of, standing, by_slot, filed_slots, entered, left_out, AreSlots, AreSame, IsFiled, IsGapFor, StandsIn, HasOrders, relabelled, renamed, Vacates}
 use Rattle.rv_rows.proofs.FiledLaws.{filed-key}
-use Rattle.rv_rows.proofs.SlotLaws.{by_flag, by_found, any_default, found_key, renamed_settled, struck, rewritten, member_found, found_item, in_order-slots, in_order-items, same-filter, same-map, all-to, all-map, all-insert, others-filter, alike, alike-moved, map-insert, map-remove, same-insert}
+use Rattle.rv_rows.proofs.SlotLaws.{by_flag, by_found, any_default, found_key, renamed_settled, struck, rewritten, member_found, found_item, in_order-slots, in_order-items, any-filter, any-map, any-alike, any-insert, absent-filter, all-to, all-map, all-insert, others-filter, alike, alike-moved, map-insert, map-remove}
 
 pub slot_at : (n : ℕ) (os : List ℕ) (j : ℕ) → AreSlots n os → j < length os → get_or os j 0 < n
 slot_at n [] j all lt = absurd (omega arith)
@@ -43,6 +43,14 @@ pub slot_held : (n s : ℕ) (os : List ℕ) → AreSlots n os → list_any (eqb 
 slot_held n s [] all e = absurd (let f : false ≡ true = e in cc)
 slot_held n s (o ∷ os) all e = by_flag (λ b. (b || list_any (eqb s) os) ≡ true → s < n) (eqb s o) (λ t f. subst (λ (i : ℕ). i < n) (sym ((Decides-eqb s o).0 t)) all.0) (λ t f. slot_held n s os all.1 f) e
 
+-- a slot whose row is filed is one of all
+held_too : (by : Filing) (slots : List Stored) (by_key : List ℕ) (i : ℕ) → list_any (eqb i) (filed_slots by slots by_key) ≡ true → list_any (eqb i) by_key ≡ true
+held_too by slots [] i e = e
+held_too by slots (o ∷ os) i e =
+    by_flag (λ b. list_any (eqb i) (cond b (o ∷ filed_slots by slots os) (filed_slots by slots os)) ≡ true → list_any (eqb i) (o ∷ os) ≡ true) (is_filed by (row_of slots o).0)
+    (λ _ f. by_flag (λ b. (b || list_any (eqb i) (filed_slots by slots os)) ≡ true → (b || list_any (eqb i) os) ≡ true) (eqb i o) (λ _ _. refl) (λ _ g. held_too by slots os i g) f)
+    (λ _ f. by_flag (λ b. (b || list_any (eqb i) os) ≡ true) (eqb i o) (λ _. refl) (λ _. held_too by slots os i f)) e
+
 -- a row whose key no row has is not among the rows by what they are filed under either
 pub absent_too : (by : Filing) (slots : List Stored) (by_key order : List ℕ) (row : Row) → AreRows (standing slots by_key) → IsFiled by slots by_key order → find_by stored_key (row_text row) (standing slots by_key) ≡ None → find_by (filed_key by) (filed_text by row) (standing slots order) ≡ None
 absent_too by slots by_key order row sorted is none =
@@ -52,7 +60,7 @@ absent_too by slots by_key order row sorted is none =
     (λ i e.
     let at = member_found (λ i. filed_key by (row_of slots i)) (filed_text by row) order i e in
     let same : row_text row ≡ stored_key (row_of slots i) = filed-key by row (row_of slots i).0 at.1 in
-    absurd (none-some (row_of slots i) (sym none ∙ ap (λ (k : List ℕ). find_by stored_key k (standing slots by_key)) same ∙ found_item stored_key (row_of slots) by_key i sorted (is.same (eqb i) ∙ at.0))))
+    absurd (none-some (row_of slots i) (sym none ∙ ap (λ (k : List ℕ). find_by stored_key k (standing slots by_key)) same ∙ found_item stored_key (row_of slots) by_key i sorted (held_too by slots by_key i (is.same (eqb i) ∙ at.0)))))
 
 -- a row in a new slot
 standing_old : (slots : List Stored) (x : Stored) (os : List ℕ) → AreSlots (length slots) os → standing (slots ++ x ∷ []) os ≡ standing slots os
@@ -66,26 +74,43 @@ standing_new slots x os j all =
 more_slots : (slots : List Stored) (x : Stored) (os : List ℕ) (j : ℕ) → AreSlots (length slots) os → AreSlots (length (slots ++ x ∷ [])) (insert os j (length slots))
 more_slots slots x os j all = rw (length-append slots (x ∷ [])) (all-insert (λ i. i < length slots + 1) (length slots) os j (omega arith) (all-to (λ i. i < length slots) (λ i. i < length slots + 1) os (λ i lt. omega arith) all))
 
-pub pushed_filed : (by : Filing) (slots : List Stored) (by_key order : List ℕ) (x : Stored) (i j : ℕ) → IsFiled by slots by_key order → InOrder (filed_key by) (insert (standing slots order) j x)
-    → IsFiled by (slots ++ x ∷ []) (insert by_key i (length slots)) (insert order j (length slots))
-pushed_filed by slots by_key order x i j is sorted =
+-- the slots of filed rows, with one slot more
+more_filed : (by : Filing) (slots : List Stored) (by_key order : List ℕ) (x : Stored) (i : ℕ) (test : ℕ → Bool) → AreSlots (length slots) by_key → AreSame (filed_slots by slots by_key) order
+    → list_any test (filed_slots by (slots ++ x ∷ []) (insert by_key i (length slots))) ≡ ((is_filed by x.0 && test (length slots)) || list_any test order)
+more_filed by slots by_key order x i test all same =
+    let now : ℕ → Bool = λ o. is_filed by (row_of (slots ++ x ∷ []) o).0 in
+    let was : ℕ → Bool = λ o. is_filed by (row_of slots o).0 in
+    any-filter test now (insert by_key i (length slots))
+    ∙ any-insert (λ o. now o && test o) by_key i (length slots)
+    ∙ (λ k. (is_filed by (get_or-append_seam slots x [] no_row k).0 && test (length slots)) || any-alike (λ o. o < length slots) (λ o. now o && test o) (λ o. was o && test o) by_key (λ o lt. ap (λ (s : Stored). is_filed by s.0 && test o) (get_or_append_left slots (x ∷ []) no_row o lt)) all k)
+    ∙ ap (λ (b : Bool). (is_filed by x.0 && test (length slots)) || b) (sym (any-filter test was by_key) ∙ same test)
+
+pub pushed_filed : (by : Filing) (slots : List Stored) (by_key order : List ℕ) (x : Stored) (i : ℕ) (at : Option ℕ) → AreSlots (length slots) by_key → IsFiled by slots by_key order → IsGapFor by x (standing slots order) at
+    → IsFiled by (slots ++ x ∷ []) (insert by_key i (length slots)) (entered at (length slots) order)
+pushed_filed by slots by_key order x i None all is out =
+    record {
+      in_slots = rw (length-append slots (x ∷ [])) (all-to (λ o. o < length slots) (λ o. o < length slots + 1) order (λ o lt. omega arith) is.in_slots);
+      in_order = subst (InOrder (filed_key by)) (sym (standing_old slots x order is.in_slots)) is.in_order;
+      same = λ test. more_filed by slots by_key order x i test all is.same ∙ ap (λ (b : Bool). (b && test (length slots)) || list_any test order) out;
+    }
+pushed_filed by slots by_key order x i (Some j) all is gap =
     record {
       in_slots = more_slots slots x order j is.in_slots;
-      in_order = subst (InOrder (filed_key by)) (sym (standing_new slots x order j is.in_slots)) sorted;
-      same = same-insert by_key order i j (length slots) is.same;
+      in_order = subst (InOrder (filed_key by)) (sym (standing_new slots x order j is.in_slots)) gap.1;
+      same = λ test. more_filed by slots by_key order x i test all is.same ∙ ap (λ (b : Bool). (b && test (length slots)) || list_any test order) gap.0 ∙ sym (any-insert test order j (length slots));
     }
 
-pub pushed : (slots new : List Stored) (by_key keys by_list lists by_user users by_sort sorts : List ℕ) (x : Stored) (i j k l n : ℕ) → HasOrders slots by_key by_list by_user by_sort → AreRows (insert (standing slots by_key) i x)
-    → InOrder (filed_key filings.List) (insert (standing slots by_list) j x) → InOrder (filed_key filings.User) (insert (standing slots by_user) k x) → InOrder (filed_key filings.Sort) (insert (standing slots by_sort) l x)
-    → new ≡ slots ++ x ∷ [] → n ≡ length slots → keys ≡ insert by_key i n → lists ≡ insert by_list j n → users ≡ insert by_user k n → sorts ≡ insert by_sort l n → HasOrders new keys lists users sorts
-pushed slots new by_key keys by_list lists by_user users by_sort sorts x i j k l n indexed rows list_order user_order sort_order new_is n_is keys_are lists_are users_are sorts_are =
+pub pushed : (slots new : List Stored) (by_key keys by_list lists by_user users by_sort sorts : List ℕ) (x : Stored) (i n : ℕ) (j k l : Option ℕ) → HasOrders slots by_key by_list by_user by_sort → AreRows (insert (standing slots by_key) i x)
+    → IsGapFor filings.List x (standing slots by_list) j → IsGapFor filings.User x (standing slots by_user) k → IsGapFor filings.Sort x (standing slots by_sort) l
+    → new ≡ slots ++ x ∷ [] → n ≡ length slots → keys ≡ insert by_key i n → lists ≡ entered j n by_list → users ≡ entered k n by_user → sorts ≡ entered l n by_sort → HasOrders new keys lists users sorts
+pushed slots new by_key keys by_list lists by_user users by_sort sorts x i n j k l indexed rows list_gap user_gap sort_gap new_is n_is keys_are lists_are users_are sorts_are =
     rw (keys_are, lists_are, users_are, sorts_are, n_is, new_is)
     (record {
       key_slots = more_slots slots x by_key i indexed.key_slots;
       key_order = subst AreRows (sym (standing_new slots x by_key i indexed.key_slots)) rows;
-      lists = pushed_filed filings.List slots by_key by_list x i j indexed.lists list_order;
-      users = pushed_filed filings.User slots by_key by_user x i k indexed.users user_order;
-      sorts = pushed_filed filings.Sort slots by_key by_sort x i l indexed.sorts sort_order;
+      lists = pushed_filed filings.List slots by_key by_list x i j indexed.key_slots indexed.lists list_gap;
+      users = pushed_filed filings.User slots by_key by_user x i k indexed.key_slots indexed.users user_gap;
+      sorts = pushed_filed filings.Sort slots by_key by_sort x i l indexed.key_slots indexed.sorts sort_gap;
     })
 
 -- a row that goes
@@ -99,59 +124,86 @@ moved_in n s m i e at lt apart = by_flag (λ b. cond b s i < m) (eqb i (n - 1)) 
 left_over : (key : Stored → List ℕ) (slots : List Stored) (os : List ℕ) (j s : ℕ) → InOrder key (standing slots os) → j < length os → get_or os j 0 ≡ s → remove os j ≡ filter (λ i. not (eqb s i)) os
 left_over key slots os j s sorted lt is = struck (λ i. key (row_of slots i)) os j s (in_order-slots key (row_of slots) os sorted) lt is
 
-left_slots : (key : Stored → List ℕ) (slots : List Stored) (os : List ℕ) (j s : ℕ) → AreSlots (length slots) os → InOrder key (standing slots os) → j < length os → get_or os j 0 ≡ s → AllByRecursion (λ i. (i < length slots) × (i ≢ s)) (remove os j)
-left_slots key slots os j s all sorted lt is = subst (AllByRecursion (λ i. (i < length slots) × (i ≢ s))) (sym (left_over key slots os j s sorted lt is)) (others-filter (λ i. i < length slots) s os all)
-
-standing_left : (key : Stored → List ℕ) (slots left : List Stored) (os : List ℕ) (j s : ℕ) → AreSlots (length slots) os → InOrder key (standing slots os) → j < length os → get_or os j 0 ≡ s → Vacates slots s left
-    → standing left (map (relabelled (length slots - 1) s) (remove os j)) ≡ remove (standing slots os) j
-standing_left key slots left os j s all sorted lt is gone =
-    alike-moved (row_of slots) (row_of left) (relabelled (length slots - 1) s) (λ i. (i < length slots) × (i ≢ s)) (remove os j) (λ i h. gone.stays i h.0 h.1) (left_slots key slots os j s all sorted lt is)
-    ∙ map-remove (row_of slots) os j
-
-order_left : (key : Stored → List ℕ) (slots left : List Stored) (os : List ℕ) (j s : ℕ) → AreSlots (length slots) os → InOrder key (standing slots os) → j < length os → get_or os j 0 ≡ s → Vacates slots s left
-    → InOrder key (standing left (map (relabelled (length slots - 1) s) (remove os j)))
-order_left key slots left os j s all sorted lt is gone =
-    let part : InOrder key (standing slots (filter (λ i. not (eqb s i)) os)) = in_order-items key (row_of slots) (filter (λ i. not (eqb s i)) os) (in_order-filter (λ i. key (row_of slots i)) (λ i. not (eqb s i)) os (in_order-slots key (row_of slots) os sorted)) in
-    let rest : InOrder key (remove (standing slots os) j) = subst (InOrder key) (ap (standing slots) (sym (left_over key slots os j s sorted lt is)) ∙ map-remove (row_of slots) os j) part in
-    subst (InOrder key) (sym (standing_left key slots left os j s all sorted lt is gone)) rest
-
-slots_left : (key : Stored → List ℕ) (slots left : List Stored) (os : List ℕ) (j s : ℕ) → AreSlots (length slots) os → InOrder key (standing slots os) → j < length os → get_or os j 0 ≡ s → Vacates slots s left
-    → AreSlots (length left) (map (relabelled (length slots - 1) s) (remove os j))
-slots_left key slots left os j s all sorted lt is gone =
-    let there : s < length slots = subst (λ (i : ℕ). i < length slots) is (slot_at (length slots) os j all lt) in
-    all-map (λ i. (i < length slots) × (i ≢ s)) (λ i. i < length left) (relabelled (length slots - 1) s) (remove os j) (λ i h. moved_in (length slots) s (length left) i gone.one_less there h.0 h.1) (left_slots key slots os j s all sorted lt is)
-
-pub vacated_filed : (by : Filing) (slots left : List Stored) (by_key order : List ℕ) (i j s : ℕ) → AreRows (standing slots by_key) → IsFiled by slots by_key order → i < length by_key → get_or by_key i 0 ≡ s → j < length order → get_or order j 0 ≡ s → Vacates slots s left
-    → IsFiled by left (map (relabelled (length slots - 1) s) (remove by_key i)) (map (relabelled (length slots - 1) s) (remove order j))
-vacated_filed by slots left by_key order i j s sorted is i_in i_is j_in j_is gone =
-    record {
-      in_slots = slots_left (filed_key by) slots left order j s is.in_slots is.in_order j_in j_is gone;
-      in_order = order_left (filed_key by) slots left order j s is.in_slots is.in_order j_in j_is gone;
-      same = same-map (relabelled (length slots - 1) s) (remove by_key i) (remove order j) (same_left (remove by_key i) (remove order j) (sym (left_over stored_key slots by_key i s sorted i_in i_is)) (sym (left_over (filed_key by) slots order j s is.in_order j_in j_is)));
-    }
+-- and so has an order in which the slot does not stand
+left_filed : (by : Filing) (slots : List Stored) (by_key order : List ℕ) (at : Option ℕ) (s : ℕ) → IsFiled by slots by_key order → StandsIn by slots order s at → left_out at order ≡ filter (λ i. not (eqb s i)) order
+left_filed by slots by_key order None s is out = sym (absent-filter s order (sym (is.same (eqb s)) ∙ not_filed by_key))
   where
-    same_left : (xs ys : List ℕ) → filter (λ i. not (eqb s i)) by_key ≡ xs → filter (λ i. not (eqb s i)) order ≡ ys → AreSame xs ys
-    same_left xs ys e f = subst (λ (xs : List ℕ). AreSame xs ys) e (subst (λ (ys : List ℕ). AreSame (filter (λ i. not (eqb s i)) by_key) ys) f (same-filter (λ i. not (eqb s i)) by_key order is.same))
+    not_filed : (os : List ℕ) → list_any (eqb s) (filed_slots by slots os) ≡ false
+    not_filed [] = refl
+    not_filed (o ∷ os) =
+        by_flag (λ b. is_filed by (row_of slots o).0 ≡ b → list_any (eqb s) (cond b (o ∷ filed_slots by slots os) (filed_slots by slots os)) ≡ false) (is_filed by (row_of slots o).0)
+        (λ t _. by_flag (λ b. (b || list_any (eqb s) (filed_slots by slots os)) ≡ false) (eqb s o) (λ same. let both : true ≡ false = sym t ∙ subst (λ (i : ℕ). is_filed by (row_of slots i).0 ≡ false) ((Decides-eqb s o).0 same) out in absurd (cc)) (λ _. not_filed os))
+        (λ _ _. not_filed os) refl
+left_filed by slots by_key order (Some j) s is there = left_over (filed_key by) slots order j s is.in_order there.0 there.1
 
--- where a slot stands in an order
-pub record StandsAt (order : List ℕ) (j s : ℕ) : Type 0 where
-  pub within : j < length order
-  pub is : get_or order j 0 ≡ s
+module _ (key : Stored → List ℕ) (slots left : List Stored) (os ws : List ℕ) (s : ℕ) (all : AreSlots (length slots) os) (others : ws ≡ filter (λ i. not (eqb s i)) os) (gone : Vacates slots s left) where
+  left_slots : AllByRecursion (λ i. (i < length slots) × (i ≢ s)) ws
+  left_slots = subst (AllByRecursion (λ i. (i < length slots) × (i ≢ s))) (sym others) (others-filter (λ i. i < length slots) s os all)
 
-pub vacated : (slots left : List Stored) (by_key keys by_list lists by_user users by_sort sorts : List ℕ) (i j k l s last : ℕ) → HasOrders slots by_key by_list by_user by_sort
-    → StandsAt by_key i s → StandsAt by_list j s → StandsAt by_user k s → StandsAt by_sort l s → Vacates slots s left
-    → last ≡ length slots - 1 → keys ≡ map (relabelled last s) (remove by_key i) → lists ≡ map (relabelled last s) (remove by_list j) → users ≡ map (relabelled last s) (remove by_user k) → sorts ≡ map (relabelled last s) (remove by_sort l)
+  standing_left : standing left (map (relabelled (length slots - 1) s) ws) ≡ standing slots ws
+  standing_left = alike-moved (row_of slots) (row_of left) (relabelled (length slots - 1) s) (λ i. (i < length slots) × (i ≢ s)) ws (λ i h. gone.stays i h.0 h.1) left_slots
+
+  order_left : InOrder key (standing slots os) → InOrder key (standing left (map (relabelled (length slots - 1) s) ws))
+  order_left sorted =
+      let part : InOrder key (standing slots (filter (λ i. not (eqb s i)) os)) = in_order-items key (row_of slots) (filter (λ i. not (eqb s i)) os) (in_order-filter (λ i. key (row_of slots i)) (λ i. not (eqb s i)) os (in_order-slots key (row_of slots) os sorted)) in
+      subst (InOrder key) (sym standing_left) (subst (λ (ws : List ℕ). InOrder key (standing slots ws)) (sym others) part)
+
+  slots_left : s < length slots → AreSlots (length left) (map (relabelled (length slots - 1) s) ws)
+  slots_left there = all-map (λ i. (i < length slots) × (i ≢ s)) (λ i. i < length left) (relabelled (length slots - 1) s) ws (λ i h. moved_in (length slots) s (length left) i gone.one_less there h.0 h.1) left_slots
+
+-- of the slots that are left, those whose rows are filed
+filed_left : (by : Filing) (slots left : List Stored) (by_key order : List ℕ) (s : ℕ) (test : ℕ → Bool) → AreSlots (length slots) by_key → AreSame (filed_slots by slots by_key) order → Vacates slots s left
+    → list_any test (filed_slots by left (map (relabelled (length slots - 1) s) (filter (λ i. not (eqb s i)) by_key))) ≡ list_any test (map (relabelled (length slots - 1) s) (filter (λ i. not (eqb s i)) order))
+filed_left by slots left by_key order s test all same gone =
+    let moved : ℕ → ℕ = relabelled (length slots - 1) s in
+    let other : ℕ → Bool = λ i. not (eqb s i) in
+    let now : ℕ → Bool = λ i. is_filed by (row_of left i).0 in
+    let was : ℕ → Bool = λ i. is_filed by (row_of slots i).0 in
+    any-filter test now (map moved (filter other by_key))
+    ∙ any-map (λ i. now i && test i) moved (filter other by_key)
+    ∙ any-alike (λ i. (i < length slots) × (i ≢ s)) (λ i. now (moved i) && test (moved i)) (λ i. was i && test (moved i)) (filter other by_key) (λ i h. ap (λ (x : Stored). is_filed by x.0 && test (moved i)) (gone.stays i h.0 h.1)) (others-filter (λ i. i < length slots) s by_key all)
+    ∙ any-filter (λ i. was i && test (moved i)) other by_key
+    ∙ (λ k. list_any (λ i. swapped (other i) (was i) (test (moved i)) k) by_key)
+    ∙ sym (any-filter (λ i. other i && test (moved i)) was by_key)
+    ∙ same (λ i. other i && test (moved i))
+    ∙ sym (any-filter (λ i. test (moved i)) other order)
+    ∙ sym (any-map test moved (filter other order))
+  where
+    swapped : (a b c : Bool) → (a && (b && c)) ≡ (b && (a && c))
+    swapped true b c = refl
+    swapped false true c = refl
+    swapped false false c = refl
+
+pub vacated_filed : (by : Filing) (slots left : List Stored) (by_key order : List ℕ) (i s : ℕ) (at : Option ℕ) → AreSlots (length slots) by_key → AreRows (standing slots by_key) → IsFiled by slots by_key order → i < length by_key → get_or by_key i 0 ≡ s → StandsIn by slots order s at → Vacates slots s left
+    → IsFiled by left (map (relabelled (length slots - 1) s) (remove by_key i)) (map (relabelled (length slots - 1) s) (left_out at order))
+vacated_filed by slots left by_key order i s at all sorted is i_in i_is stands gone =
+    let there : s < length slots = subst (λ (i : ℕ). i < length slots) i_is (slot_at (length slots) by_key i all i_in) in
+    let others : left_out at order ≡ filter (λ i. not (eqb s i)) order = left_filed by slots by_key order at s is stands in
+    record {
+      in_slots = slots_left (filed_key by) slots left order (left_out at order) s is.in_slots others gone there;
+      in_order = order_left (filed_key by) slots left order (left_out at order) s is.in_slots others gone is.in_order;
+      same = λ test.
+          (λ k. list_any test (filed_slots by left (map (relabelled (length slots - 1) s) (left_over stored_key slots by_key i s sorted i_in i_is k))))
+          ∙ filed_left by slots left by_key order s test all is.same gone
+          ∙ (λ k. list_any test (map (relabelled (length slots - 1) s) (sym others k)));
+    }
+
+pub vacated : (slots left : List Stored) (by_key keys by_list lists by_user users by_sort sorts : List ℕ) (i s last : ℕ) (j k l : Option ℕ) → HasOrders slots by_key by_list by_user by_sort
+    → i < length by_key → get_or by_key i 0 ≡ s → StandsIn filings.List slots by_list s j → StandsIn filings.User slots by_user s k → StandsIn filings.Sort slots by_sort s l → Vacates slots s left
+    → last ≡ length slots - 1 → keys ≡ map (relabelled last s) (remove by_key i) → lists ≡ map (relabelled last s) (left_out j by_list) → users ≡ map (relabelled last s) (left_out k by_user) → sorts ≡ map (relabelled last s) (left_out l by_sort)
     → HasOrders left keys lists users sorts × (standing left keys ≡ remove (standing slots by_key) i)
-vacated slots left by_key keys by_list lists by_user users by_sort sorts i j k l s last indexed at_key at_list at_user at_sort gone last_is keys_are lists_are users_are sorts_are =
+vacated slots left by_key keys by_list lists by_user users by_sort sorts i s last j k l indexed i_in i_is in_list of_user of_sort gone last_is keys_are lists_are users_are sorts_are =
+    let there : s < length slots = subst (λ (i : ℕ). i < length slots) i_is (slot_at (length slots) by_key i indexed.key_slots i_in) in
+    let others : remove by_key i ≡ filter (λ i. not (eqb s i)) by_key = left_over stored_key slots by_key i s indexed.key_order i_in i_is in
     rw (keys_are, lists_are, users_are, sorts_are, last_is) (
       record {
-        key_slots = slots_left stored_key slots left by_key i s indexed.key_slots indexed.key_order at_key.within at_key.is gone;
-        key_order = order_left stored_key slots left by_key i s indexed.key_slots indexed.key_order at_key.within at_key.is gone;
-        lists = vacated_filed filings.List slots left by_key by_list i j s indexed.key_order indexed.lists at_key.within at_key.is at_list.within at_list.is gone;
-        users = vacated_filed filings.User slots left by_key by_user i k s indexed.key_order indexed.users at_key.within at_key.is at_user.within at_user.is gone;
-        sorts = vacated_filed filings.Sort slots left by_key by_sort i l s indexed.key_order indexed.sorts at_key.within at_key.is at_sort.within at_sort.is gone;
+        key_slots = slots_left stored_key slots left by_key (remove by_key i) s indexed.key_slots others gone there;
+        key_order = order_left stored_key slots left by_key (remove by_key i) s indexed.key_slots others gone indexed.key_order;
+        lists = vacated_filed filings.List slots left by_key by_list i s j indexed.key_slots indexed.key_order indexed.lists i_in i_is in_list gone;
+        users = vacated_filed filings.User slots left by_key by_user i s k indexed.key_slots indexed.key_order indexed.users i_in i_is of_user gone;
+        sorts = vacated_filed filings.Sort slots left by_key by_sort i s l indexed.key_slots indexed.key_order indexed.sorts i_in i_is of_sort gone;
       },
-      standing_left stored_key slots left by_key i s indexed.key_slots indexed.key_order at_key.within at_key.is gone,
+      standing_left stored_key slots left by_key (remove by_key i) s indexed.key_slots others gone ∙ map-remove (row_of slots) by_key i,
     )
 
 -- another row with the same key, filed as before
@@ -174,12 +226,12 @@ module _ (slots : List Stored) (s : ℕ) (x : Stored) (at : s < length slots) wh
   order_stays : (key : Stored → List ℕ) (os : List ℕ) → key x ≡ key (row_of slots s) → InOrder key (standing slots os) → InOrder key (standing (set slots s x) os)
   order_stays key os same sorted = in_order-items key (row_of (set slots s x)) os (subst (λ (g : ℕ → List ℕ). InOrder g os) (keys_stay key same) (in_order-slots key (row_of slots) os sorted))
 
-written_filed : (by : Filing) (slots : List Stored) (by_key order : List ℕ) (s : ℕ) (x : Stored) → s < length slots → filed_key by x ≡ filed_key by (row_of slots s) → IsFiled by slots by_key order → IsFiled by (set slots s x) by_key order
-written_filed by slots by_key order s x at same is =
+written_filed : (by : Filing) (slots : List Stored) (by_key order : List ℕ) (s : ℕ) (x : Stored) → s < length slots → under by x.0 ≡ under by (row_of slots s).0 → filed_key by x ≡ filed_key by (row_of slots s) → IsFiled by slots by_key order → IsFiled by (set slots s x) by_key order
+written_filed by slots by_key order s x at alike same is =
     record {
       in_slots = rw (length-set slots s x) is.in_slots;
       in_order = order_stays slots s x at (filed_key by) order same is.in_order;
-      same = is.same;
+      same = subst (λ (text : ℕ → List ℕ). AreSame (filter (λ i. not (bytes_eq (text i) [])) by_key) order) (keys_stay slots s x at (λ s. under by s.0) alike) is.same;
     }
 
 -- a row with the key of another, that is filed as it is
@@ -197,9 +249,9 @@ written slots new by_key by_list by_user by_sort i s x indexed lt is alike new_i
       record {
         key_slots = rw (length-set slots s x) indexed.key_slots;
         key_order = order_stays slots s x at stored_key by_key alike.key indexed.key_order;
-        lists = written_filed filings.List slots by_key by_list s x at (λ i. filed (alike.list i) (alike.key i)) indexed.lists;
-        users = written_filed filings.User slots by_key by_user s x at (λ i. filed (alike.user i) (alike.key i)) indexed.users;
-        sorts = written_filed filings.Sort slots by_key by_sort s x at (λ i. filed (alike.list i) (falling (alike.sort i) ++ alike.key i)) indexed.sorts;
+        lists = written_filed filings.List slots by_key by_list s x at alike.list (λ i. filed (alike.list i) (alike.key i)) indexed.lists;
+        users = written_filed filings.User slots by_key by_user s x at alike.user (λ i. filed (alike.user i) (alike.key i)) indexed.users;
+        sorts = written_filed filings.Sort slots by_key by_sort s x at alike.list (λ i. filed (alike.list i) (falling (alike.sort i) ++ alike.key i)) indexed.sorts;
       },
       rewritten (λ i. stored_key (row_of slots i)) (row_of slots) (row_of (set slots s x)) by_key i s x (new_row slots s x at) (old_row slots s x at) (in_order-slots stored_key (row_of slots) by_key indexed.key_order) lt is,
     )
@@ -261,26 +313,29 @@ again_put rows left x at order there is =
         ∙ shadowed (bytes_eq k (stored_key x)) (bytes_eq (stored_key x) k) (find_by stored_key k rows) (λ e. (bytes_eq-Decides k (stored_key x)).1 (sym ((bytes_eq-Decides (stored_key x) k).0 e)))
         ∙ sym (find_put stored_key k x rows)
 
-pub removed_at : (slots left : List Stored) (by_key keys by_list lists by_user users by_sort sorts : List ℕ) (i j k l s last : ℕ) → HasOrders slots by_key by_list by_user by_sort → i < length by_key → s ≡ get_or by_key i s
-    → StandsAt by_list j s → StandsAt by_user k s → StandsAt by_sort l s → Vacates slots s left
-    → last ≡ length slots - 1 → keys ≡ map (relabelled last s) (remove by_key i) → lists ≡ map (relabelled last s) (remove by_list j) → users ≡ map (relabelled last s) (remove by_user k) → sorts ≡ map (relabelled last s) (remove by_sort l)
-    → HasOrders left keys lists users sorts × (standing left keys ≡ remove (standing slots by_key) i)
-removed_at slots left by_key keys by_list lists by_user users by_sort sorts i j k l s last indexed i_in slot_is at_list at_user at_sort gone last_is keys_are lists_are users_are sorts_are =
-    let at_key : StandsAt by_key i s = record { within = i_in; is = read_at by_key i s 0 i_in slot_is } in
-    vacated slots left by_key keys by_list lists by_user users by_sort sorts i j k l s last indexed at_key at_list at_user at_sort gone last_is keys_are lists_are users_are sorts_are
-
 -- an order in which the last slot was looked for, by the key of its row
-pub struck_from : (key : Stored → List ℕ) (slots : List Stored) (os new : List ℕ) (k : List ℕ) (r : Result ℕ ℕ) (j s last : ℕ) → k ≡ key (row_of slots last) → InOrder key (standing slots os) → IsPositionOf key k (standing slots os) r
-    → new ≡ remove (renamed r last s os) j → new ≡ map (relabelled last s) (remove os j)
-struck_from key slots os new k r j s last k_is sorted there new_is =
+pub struck_from : (key : Stored → List ℕ) (slots : List Stored) (os new : List ℕ) (k : List ℕ) (r : Result ℕ ℕ) (at : Option ℕ) (s last : ℕ) → k ≡ key (row_of slots last) → InOrder key (standing slots os) → IsPositionOf key k (standing slots os) r
+    → new ≡ left_out at (renamed r last s os) → new ≡ map (relabelled last s) (left_out at os)
+struck_from key slots os new k r at s last k_is sorted there new_is =
     let here : IsPositionOf key (key (row_of slots last)) (standing slots os) r = subst (λ (k : List ℕ). IsPositionOf key k (standing slots os) r) k_is there in
-    new_is ∙ ap (λ (o : List ℕ). remove o j) (renamed_settled key (row_of slots) os last s r sorted here) ∙ sym (map-remove (relabelled last s) os j)
-
--- the slot at a position is among the slots, and so in another order of them
-pub held_at : (os order : List ℕ) (i s : ℕ) → AreSame os order → i < length os → s ≡ get_or os i s → list_any (eqb s) order ≡ true
-held_at os order i s same lt is = sym (same (eqb s)) ∙ among os i lt is
+    new_is ∙ ap (left_out at) (renamed_settled key (row_of slots) os last s r sorted here) ∙ sym (map-left at)
   where
-    among : (os : List ℕ) (i : ℕ) → i < length os → s ≡ get_or os i s → list_any (eqb s) os ≡ true
+    map-left : (at : Option ℕ) → map (relabelled last s) (left_out at os) ≡ left_out at (map (relabelled last s) os)
+    map-left None = refl
+    map-left (Some j) = map-remove (relabelled last s) os j
+
+-- the slot at a position is among the slots, and so in an order of them where its row is filed
+pub held_at : (by : Filing) (slots : List Stored) (os order : List ℕ) (i s : ℕ) → AreSame (filed_slots by slots os) order → i < length os → s ≡ get_or os i s → is_filed by (row_of slots s).0 ≡ true → list_any (eqb s) order ≡ true
+held_at by slots os order i s same lt is filed = sym (same (eqb s)) ∙ among os i lt is
+  where
+    among : (os : List ℕ) (i : ℕ) → i < length os → s ≡ get_or os i s → list_any (eqb s) (filed_slots by slots os) ≡ true
     among [] i lt is = absurd (omega arith)
-    among (o ∷ os) zero lt is = ap (λ (b : Bool). b || list_any (eqb s) os) ((Decides-eqb s o).1 is)
-    among (o ∷ os) (suc i) lt is = by_flag (λ b. (b || list_any (eqb s) os) ≡ true) (eqb s o) (λ _. refl) (λ _. among os i (omega arith) is)
+    among (o ∷ os) zero lt is =
+        ap (λ (b : Bool). list_any (eqb s) (cond b (o ∷ filed_slots by slots os) (filed_slots by slots os))) (subst (λ (i : ℕ). is_filed by (row_of slots i).0 ≡ true) is filed)
+        ∙ ap (λ (b : Bool). b || list_any (eqb s) (filed_slots by slots os)) ((Decides-eqb s o).1 is)
+    among (o ∷ os) (suc i) lt is =
+        let later : list_any (eqb s) (filed_slots by slots os) ≡ true = among os i (omega arith) is in
+        elim (is_filed by (row_of slots o).0) as (λ b. list_any (eqb s) (cond b (o ∷ filed_slots by slots os) (filed_slots by slots os)) ≡ true) [
+          | true ↦ by_flag (λ b. (b || list_any (eqb s) (filed_slots by slots os)) ≡ true) (eqb s o) (λ _. refl) (λ _. later)
+          | false ↦ later
+        ]

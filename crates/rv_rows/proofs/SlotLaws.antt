@@ -236,6 +236,28 @@ same-filter q xs ys same p = any-filter p q xs ∙ same (λ i. q i && p i) ∙ s
 pub same-map : (r : ℕ → ℕ) (xs ys : List ℕ) → AreSame xs ys → AreSame (map r xs) (map r ys)
 same-map r xs ys same p = any-map p r xs ∙ same (λ i. p (r i)) ∙ sym (any-map p r ys)
 
+-- tests that are alike where something holds of each slot
+pub any-alike : (P : ℕ → Type 0) (p q : ℕ → Bool) (os : List ℕ) → ((i : ℕ) → P i → p i ≡ q i) → AllByRecursion P os → list_any p os ≡ list_any q os
+any-alike P p q [] so all = refl
+any-alike P p q (o ∷ os) so all = λ i. so o all.0 i || any-alike P p q os so all.1 i
+
+-- of those that pass a test, no fewer pass another that asks for it
+pub filter-within : (p q : ℕ → Bool) (os : List ℕ) → ((i : ℕ) → p i ≡ true → q i ≡ true) → filter p (filter q os) ≡ filter p os
+filter-within p q [] so = refl
+filter-within p q (o ∷ os) so =
+    elim (q o) as (λ b. q o ≡ b → filter p (cond b (o ∷ filter q os) (filter q os)) ≡ cond (p o) (o ∷ filter p os) (filter p os)) [
+      | true ↦ λ _. ap (λ (t : List ℕ). cond (p o) (o ∷ t) t) (filter-within p q os so)
+      | false ↦ λ e. filter-within p q os so ∙ ap (λ (b : Bool). cond b (o ∷ filter p os) (filter p os)) (sym (by_flag (λ b. b ≡ false) (p o) (λ t. absurd (true_false (sym (so o t) ∙ e))) (λ _. refl)))
+    ] refl
+
+-- a slot that is none of some slots is not taken out of them
+pub absent-filter : (s : ℕ) (os : List ℕ) → list_any (eqb s) os ≡ false → filter (λ i. not (eqb s i)) os ≡ os
+absent-filter s [] none = refl
+absent-filter s (o ∷ os) none =
+    by_flag (λ b. (b || list_any (eqb s) os) ≡ false → cond (not b) (o ∷ filter (λ i. not (eqb s i)) os) (filter (λ i. not (eqb s i)) os) ≡ o ∷ os) (eqb s o)
+    (λ _ e. absurd (true_false e))
+    (λ _ e. ap (λ (t : List ℕ). o ∷ t) (absent-filter s os e)) none
+
 -- what holds of each slot of an order
 pub all-to : (P Q : ℕ → Type 0) (os : List ℕ) → ((i : ℕ) → P i → Q i) → AllByRecursion P os → AllByRecursion Q os
 all-to P Q [] so all = tt
@@ -272,8 +294,6 @@ map-insert f os j n = map-append f (take j os) (n ∷ drop j os) ∙ rw (take-ma
 pub map-remove : {X : Type 0} (f : ℕ → X) (os : List ℕ) (j : ℕ) → map f (take j os ++ drop (suc j) os) ≡ take j (map f os) ++ drop (suc j) (map f os)
 map-remove f os j = map-append f (take j os) (drop (suc j) os) ∙ rw (take-map f j os, drop-map f (suc j) os) refl
 
-pub same-insert : (xs ys : List ℕ) (i j n : ℕ) → AreSame xs ys → AreSame (take i xs ++ n ∷ drop i xs) (take j ys ++ n ∷ drop j ys)
-same-insert xs ys i j n same p =
-    sym (list_any-IsPermutation p (n ∷ xs) (take i xs ++ n ∷ drop i xs) (IsPermutation-insert xs i n))
-    ∙ ap (λ (b : Bool). p n || b) (same p)
-    ∙ list_any-IsPermutation p (n ∷ ys) (take j ys ++ n ∷ drop j ys) (IsPermutation-insert ys j n)
+-- one more slot
+pub any-insert : (p : ℕ → Bool) (os : List ℕ) (j n : ℕ) → list_any p (take j os ++ n ∷ drop j os) ≡ (p n || list_any p os)
+any-insert p os j n = sym (list_any-IsPermutation p (n ∷ os) (take j os ++ n ∷ drop j os) (IsPermutation-insert os j n))

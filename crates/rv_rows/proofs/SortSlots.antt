@@ -1,5 +1,5 @@
 -- In the order by sorts the first of the rows of a list has its greatest sort.
-use Rattle.std.proofs.Common.{◌≡◌, ℕ, ◌≤◌, Bool, false, cond, ◌||◌, List, [], ◌∷◌, map, refl, sym, ap, ◌∙◌, subst, nat_lt, arith}
+use Rattle.std.proofs.Common.{◌≡◌, ℕ, ◌≤◌, Bool, false, cond, ◌||◌, List, [], ◌∷◌, length, map, refl, sym, ap, ◌∙◌, subst, nat_lt, arith}
 use Rattle.std.specs.Prelude.{fold}
 use Rattle.std.specs.Str.{bytes_eq}
 use Rattle.std.specs.List.{filter, list_any, AllByRecursion}
@@ -16,7 +16,7 @@ use Rattle.rv_rows.specs.Slots.{row_of, standing, is_under, AreSame, IsFiled}
 use Rattle.rv_rows.specs.Effects.{greater_sort, greatest_sort, sort_in}
 use Rattle.rv_rows.specs.EffectLaws.{greatest_sort-same}
 use Rattle.rv_rows.proofs.FiledLaws.{sort-falls}
-use Rattle.rv_rows.proofs.FiledSlots.{all_under, filed_under, filter-standing}
+use Rattle.rv_rows.proofs.FiledSlots.{all_under, filed_under, filter-standing, own_slots}
 use Rattle.rv_rows.proofs.SlotLaws.{by_flag}
 
 -- a row's sort in its own list, and in another
@@ -70,22 +70,22 @@ same_greatest list slots by_key order same =
     greatest_sort-same list (rows_in (standing slots order)) (rows_in (standing slots by_key)) (λ test. any-rows test slots order ∙ sym (same (λ i. test (row_of slots i).0)) ∙ sym (any-rows test slots by_key))
 
 -- the greatest sort of a list is that of the rows that are found under it
-greatest_found : (slots : List Stored) (by_key order found : List ℕ) (list : List ℕ) → IsFiled filings.Sort slots by_key order → filter (is_under filings.Sort list slots) order ≡ found
+greatest_found : (slots : List Stored) (by_key order found : List ℕ) (list : List ℕ) → 1 ≤ length list → IsFiled filings.Sort slots by_key order → filter (is_under filings.Sort list slots) order ≡ found
     → greatest_sort list (rows_in (standing slots found)) ≡ greatest_sort list (rows_in (standing slots by_key))
-greatest_found slots by_key order found list is found_is =
+greatest_found slots by_key order found list some is found_is =
     ap (λ (os : List ℕ). greatest_sort list (rows_in (standing slots os))) (sym found_is)
-    ∙ ap (λ (stored : List Stored). greatest_sort list (rows_in stored)) (sym (filter-standing (λ s. bytes_eq (under filings.Sort s.0) list) slots order))
-    ∙ own_rows list 0 (standing slots order)
-    ∙ same_greatest list slots by_key order is.same
+    ∙ sym (same_greatest list slots (filter (is_under filings.Sort list slots) order) (filter (is_under filings.Sort list slots) by_key) (own_slots filings.Sort slots by_key order list some is.same))
+    ∙ ap (λ (stored : List Stored). greatest_sort list (rows_in stored)) (sym (filter-standing (λ s. bytes_eq (under filings.Sort s.0) list) slots by_key))
+    ∙ own_rows list 0 (standing slots by_key)
 
 -- none is found
-pub greatest_none : (slots : List Stored) (by_key order : List ℕ) (list : List ℕ) → IsFiled filings.Sort slots by_key order → filter (is_under filings.Sort list slots) order ≡ [] → 0 ≡ greatest_sort list (rows_in (standing slots by_key))
-greatest_none slots by_key order list is found_is = greatest_found slots by_key order [] list is found_is
+pub greatest_none : (slots : List Stored) (by_key order : List ℕ) (list : List ℕ) → 1 ≤ length list → IsFiled filings.Sort slots by_key order → filter (is_under filings.Sort list slots) order ≡ [] → 0 ≡ greatest_sort list (rows_in (standing slots by_key))
+greatest_none slots by_key order list some is found_is = greatest_found slots by_key order [] list some is found_is
 
 -- the first that is found
-pub greatest_first : (slots : List Stored) (by_key order : List ℕ) (s : ℕ) (rest : List ℕ) (list : List ℕ) → IsFiled filings.Sort slots by_key order → filter (is_under filings.Sort list slots) order ≡ s ∷ rest
+pub greatest_first : (slots : List Stored) (by_key order : List ℕ) (s : ℕ) (rest : List ℕ) (list : List ℕ) → 1 ≤ length list → IsFiled filings.Sort slots by_key order → filter (is_under filings.Sort list slots) order ≡ s ∷ rest
     → sort_of (row_of slots s).0 ≡ greatest_sort list (rows_in (standing slots by_key))
-greatest_first slots by_key order s rest list is found_is =
+greatest_first slots by_key order s rest list some is found_is =
     let all : AllByRecursion (λ i. under filings.Sort (row_of slots i).0 ≡ list) (s ∷ rest) = subst (AllByRecursion (λ i. under filings.Sort (row_of slots i).0 ≡ list)) found_is (all_under filings.Sort list slots order) in
     let sorted : InOrder (λ i. filed_key filings.Sort (row_of slots i)) (s ∷ rest) = subst (InOrder (λ i. filed_key filings.Sort (row_of slots i))) found_is (filed_under filings.Sort slots order list is.in_order) in
-    sym (first_sort list (row_of slots) s rest all sorted) ∙ greatest_found slots by_key order (s ∷ rest) list is found_is
+    sym (first_sort list (row_of slots) s rest all sorted) ∙ greatest_found slots by_key order (s ∷ rest) list some is found_is

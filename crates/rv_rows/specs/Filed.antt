@@ -1,6 +1,7 @@
 -- The orders of rows by a text that each is filed under, and among those of one text by the texts of their keys, or by their
 -- sorts and then by those texts, as the order of single texts.
-use Rattle.std.specs.Prelude.{ℕ, zero, suc, List, [], ◌∷◌, ◌++◌, map, unwrap_or}
+use Rattle.std.specs.Prelude.{ℕ, zero, suc, Bool, not, List, [], ◌∷◌, ◌++◌, map, unwrap_or}
+use Rattle.std.specs.Str.{bytes_eq}
 use Rattle.rv_rows.specs.declared.filing.Filing.{Filing}
 use Rattle.rv_rows.specs.declared.filing.Filing.TheVariants as filings
 use Rattle.rv_rows.specs.declared.row.Row.{Row}
@@ -19,6 +20,10 @@ abbrev pub under : Filing → Row → List ℕ
 under filings.List row = unwrap_or (list_of row) []
 under filings.User row = user_of row
 under filings.Sort row = unwrap_or (list_of row) []
+
+-- a row is filed where it is filed under something: an extent has no list, and a todo names no user
+abbrev pub is_filed : Filing → Row → Bool
+is_filed by row = not (bytes_eq (under by row) [])
 
 -- the sort of a todo, and 0 of any other row
 abbrev pub sort_of : Row → ℕ

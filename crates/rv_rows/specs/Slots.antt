@@ -1,6 +1,6 @@
 -- Rows with their versions in slots, and orders of slots: lists of slots' numbers.
-use Rattle.std.specs.Prelude.{◌≡◌, ◌≢◌, ℕ, ◌+◌, ◌-◌, ◌≤◌, ◌<◌, ◌^◌, ◌==◌, nat_lt, Bool, List, Vec, [], map, length, slice_index_or, slice_index, slice_set, Result, Ok, Err, if◌then◌else◌, vec_len, vec_capacity}
-use Rattle.std.specs.List.{AllByRecursion, list_any}
+use Rattle.std.specs.Prelude.{◌≡◌, ◌≢◌, ℕ, ◌+◌, ◌-◌, ◌≤◌, ◌<◌, ◌^◌, ◌==◌, nat_lt, Bool, true, false, List, Vec, [], map, length, slice_index_or, slice_index, slice_set, Option, Some, None, Result, Ok, Err, if◌then◌else◌, vec_len, vec_capacity}
+use Rattle.std.specs.List.{AllByRecursion, filter, insert, list_any, remove}
 use Rattle.std.specs.declared.cmp.Ordering.{Ordering}
 use Rattle.std.specs.declared.cmp.Ordering.TheVariants.{Less}
 use Rattle.std.specs.Ordering.{nat_cmp}
@@ -12,7 +12,7 @@ use Rattle.rv_rows.specs.Held.{Stored, AreRows}
 use Rattle.rv_chunks.specs.Chunking.{items}
 use Rattle.rv_rows.specs.declared.filing.Filing.{Filing}
 use Rattle.rv_rows.specs.declared.filing.Filing.TheVariants as filings
-use Rattle.rv_rows.specs.Filed.{under, filed_key}
+use Rattle.rv_rows.specs.Filed.{under, is_filed, filed_key}
 
 -- what stands for the row of a slot that is not there
 abbrev pub no_row : Stored
@@ -34,13 +34,17 @@ AreSlots n order = AllByRecursion (λ i. i < n) order
 abbrev pub AreSame : List ℕ → List ℕ → Type 0
 AreSame order other = (test : ℕ → Bool) → list_any test order ≡ list_any test other
 
--- an order of the slots that another order has, by what the rows are filed under and by what comes then
+-- the slots of an order whose rows are filed
+abbrev pub filed_slots : Filing → List Stored → List ℕ → List ℕ
+filed_slots by slots order = filter (λ i. is_filed by (row_of slots i).0) order
+
+-- an order of those slots of another order whose rows are filed, by what they are filed under and by what comes then
 pub record IsFiled (by : Filing) (slots : List Stored) (by_key order : List ℕ) : Type 0 where
   pub in_slots : AreSlots (length slots) order
   pub in_order : InOrder (filed_key by) (standing slots order)
-  pub same : AreSame by_key order
+  pub same : AreSame (filed_slots by slots by_key) order
 
--- four orders of the same slots: by the keys of the rows, by their lists, by the users whom they name, and by their lists and sorts
+-- an order of slots by the keys of the rows, and of those that are filed by their lists, by the users whom they name, and by their lists and sorts
 pub record HasOrders (slots : List Stored) (by_key by_list by_user by_sort : List ℕ) : Type 0 where
   pub key_slots : AreSlots (length slots) by_key
   pub key_order : AreRows (standing slots by_key)
@@ -90,6 +94,26 @@ relabelled from to i = if i == from then to else i
 abbrev pub renamed : Result ℕ ℕ → ℕ → ℕ → List ℕ → List ℕ
 renamed (Ok at) from to order = slice_set order at (relabelled from to (slice_index order at))
 renamed (Err at) from to order = order
+
+-- where the row goes in an order of rows: nowhere where it is not filed
+abbrev pub IsGapFor : Filing → Stored → List Stored → Option ℕ → Type 0
+IsGapFor by x rows None = is_filed by x.0 ≡ false
+IsGapFor by x rows (Some at) = (is_filed by x.0 ≡ true) × InOrder (filed_key by) (insert rows at x)
+
+-- where the slot stands in an order: nowhere where its row is not filed
+abbrev pub StandsIn : Filing → List Stored → List ℕ → ℕ → Option ℕ → Type 0
+StandsIn by slots order slot None = is_filed by (row_of slots slot).0 ≡ false
+StandsIn by slots order slot (Some at) = (at < length order) × (slice_index_or order at 0 ≡ slot)
+
+-- the order with the slot at the position, where there is one
+abbrev pub entered : Option ℕ → ℕ → List ℕ → List ℕ
+entered None slot order = order
+entered (Some at) slot order = insert order at slot
+
+-- the order without the slot at the position, where there is one
+abbrev pub left_out : Option ℕ → List ℕ → List ℕ
+left_out None order = order
+left_out (Some at) order = remove order at
 
 -- the slot is given back: the row of the last slot has moved to it, and each other row is where it was
 pub record Vacates (slots : List Stored) (slot : ℕ) (left : List Stored) : Type 0 where

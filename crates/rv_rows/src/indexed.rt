@@ -14,12 +14,12 @@ ghost use Rattle.rv_rows.specs.Slots.{rows_of, no_row};
 use crate::filing::Filing;
 use crate::key::Kind;
 use crate::positions::{
-    gap_filed, position_by_key, position_by_slot, position_filed, push, rewrite, slots_under,
+    enter, gap_filed, place_of, position_by_key, position_filed, push, rewrite, slots_under,
     strike, vacate,
 };
 use crate::row::Row;
 use crate::tables::RowsInOrder;
-use rv_base::{Id, Memory};
+use rv_base::{Id, Memory, User};
 use rv_chunks::{At, Chunks};
 use std::alloc::Global;
 use std::marker::Model;
@@ -35,11 +35,11 @@ pub(crate) struct IndexedRows {
     slots: Vec<(Row, u32)>,
     // the slots in the order of their rows' keys
     by_key: Chunks<u32>,
-    // the slots in the order of their rows' lists, and within a list in that of their keys
+    // the slots of rows that have lists in the order of these, and within a list in that of their keys
     by_list: Chunks<u32>,
-    // the slots in the order of the users whom their rows name, and of one user in that of their keys
+    // the slots of rows that name users in the order of these, and of one user in that of their keys: no todo
     by_user: Chunks<u32>,
-    // the slots in the order of their rows' lists, within a list by their sorts from the greatest down, and of one sort in the
+    // the slots of rows that have lists in the order of these, within a list by their sorts from the greatest down, and of one sort in the
     // order of their keys
     by_sort: Chunks<u32>,
     // the slots and each of the four orders have space for so many more
@@ -182,9 +182,9 @@ impl IndexedRows {
         let of_sort = gap_filed(&self.slots, &self.by_sort, Filing::Sort, &row);
         push(&mut self.slots, row, version);
         self.by_key.insert(at, slot);
-        self.by_list.insert(in_list, slot);
-        self.by_user.insert(of_user, slot);
-        self.by_sort.insert(of_sort, slot);
+        enter(&mut self.by_list, in_list, slot);
+        enter(&mut self.by_user, of_user, slot);
+        enter(&mut self.by_sort, of_sort, slot);
         self.spare -= 1;
     }
 
@@ -195,16 +195,16 @@ impl IndexedRows {
         ensures spare { self.new.spare ≡ self.old.spare }
     {
         let slot = *self.by_key.get(at);
-        let in_list = position_by_slot(&self.slots, &self.by_list, Filing::List, slot);
-        let of_user = position_by_slot(&self.slots, &self.by_user, Filing::User, slot);
-        let of_sort = position_by_slot(&self.slots, &self.by_sort, Filing::Sort, slot);
+        let in_list = place_of(&self.slots, &self.by_list, Filing::List, slot);
+        let of_user = place_of(&self.slots, &self.by_user, Filing::User, slot);
+        let of_sort = place_of(&self.slots, &self.by_sort, Filing::Sort, slot);
         let last = (self.slots.len() - 1) as u32;
         let moved = &self.slots[last as usize].0;
         let moved_by_key = position_by_key(&self.slots, &self.by_key, moved.kind(), moved.id());
         let moved_by_list = position_filed(&self.slots, &self.by_list, Filing::List, moved);
         let moved_by_user = position_filed(&self.slots, &self.by_user, Filing::User, moved);
         let moved_by_sort = position_filed(&self.slots, &self.by_sort, Filing::Sort, moved);
-        strike(&mut self.by_key, at, moved_by_key, last, slot);
+        strike(&mut self.by_key, Some(at), moved_by_key, last, slot);
         strike(&mut self.by_list, in_list, moved_by_list, last, slot);
         strike(&mut self.by_user, of_user, moved_by_user, last, slot);
         strike(&mut self.by_sort, of_sort, moved_by_sort, last, slot);
@@ -230,21 +230,23 @@ impl IndexedRows {
         )
     }
 
-    // The rows that are filed under a text by the users whom they name, in the order of their keys.
-    pub(crate) fn of_user(&self, user: &str) -> RowsInOrder<'_>
+    // The rows that name a user, in the order of their keys: those that are filed under the name, which is not empty.
+    pub(crate) fn of_user(&self, user: &User) -> RowsInOrder<'_>
         ensures rows { result ≡ filter (λ s. bytes_eq (user_of s.0) user.now) (rows_of self.now) }
         ensures order { AreRows (rows_of self.now) }
     {
         RowsInOrder::new(
             &self.slots,
-            slots_under(&self.slots, &self.by_user, Filing::User, user),
+            slots_under(&self.slots, &self.by_user, Filing::User, user.as_str()),
         )
     }
-    // The greatest sort of the rows that are filed under a text by their lists, and 0 where there is none.
-    pub(crate) fn greatest_sort(&self, list: &str) -> u64
+
+    // The greatest sort of the todos of a list, and 0 where there is none: that of the first row that is filed under its id, which is not
+    // empty.
+    pub(crate) fn greatest_sort(&self, list: &Id) -> u64
         ensures { result ≡ greatest_sort list.now (rows_in (rows_of self.now)) }
     {
-        match slots_under(&self.slots, &self.by_sort, Filing::Sort, list).next() {
+        match slots_under(&self.slots, &self.by_sort, Filing::Sort, list.as_str()).next() {
             Some(slot) => self.slots[*slot as usize].0.sort(),
             None => 0,
         }

@@ -1,12 +1,12 @@
 // Rows in slots, positions in orders of slots, and how they are looked for: how the row of each slot stands to what is sought.
-ghost use Rattle.std.specs.Prelude.{◌≡◌, ◌≤◌, ◌<◌, ◌+◌, None, nat_eq, ◌∷◌, ◌++◌, [], length, true, slice_index_or, slice_set, vec_len, vec_capacity, MatchResult, Err};
-ghost use Rattle.std.specs.List.{list_any, filter, remove};
+ghost use Rattle.std.specs.Prelude.{◌≡◌, ℕ, ◌≤◌, ◌<◌, ◌+◌, None, nat_eq, ◌∷◌, ◌++◌, [], length, true, option_map, slice_index_or, slice_set, vec_len, vec_capacity, IfSome, MatchResult};
+ghost use Rattle.std.specs.List.{list_any, filter};
 ghost use Rattle.rv_base.specs.Sorted.{IsPositionOf, InOrder, find_by};
 ghost use Rattle.rv_chunks.specs.Chunking.{items, index_of, index_found, IsItem, IsGap};
 ghost use Rattle.rv_rows.specs.Keys.{key_text};
 ghost use Rattle.rv_rows.specs.Held.{AreRows, stored_key};
-ghost use Rattle.rv_rows.specs.Filed.{filed_key, filed_text, under};
-ghost use Rattle.rv_rows.specs.Slots.{by_slot, standing, AreSlots, is_under, relabelled, renamed, Vacates};
+ghost use Rattle.rv_rows.specs.Filed.{filed_key, filed_text, is_filed, under};
+ghost use Rattle.rv_rows.specs.Slots.{by_slot, row_of, standing, entered, left_out, AreSlots, IsGapFor, StandsIn, is_under, relabelled, renamed, Vacates};
 
 use crate::filing::Filing;
 use crate::key::Kind;
@@ -86,17 +86,25 @@ pub(crate) fn position_filed(
     order.position(&SoughtRow { slots, by, row })
 }
 
-// Where the row would go in an order.
-pub(crate) fn gap_filed(slots: &[(Row, u32)], order: &Chunks<u32>, by: Filing, row: &Row) -> At
+// Where the row goes in an order, where it is filed in it.
+pub(crate) fn gap_filed(
+    slots: &[(Row, u32)],
+    order: &Chunks<u32>,
+    by: Filing,
+    row: &Row,
+) -> Option<At>
     requires slots { AreSlots (length slots.now) (items order.now.chunks) }
     requires order { InOrder (filed_key by) (standing slots.now (items order.now.chunks)) }
     requires absent { find_by (filed_key by) (filed_text by row.now) (standing slots.now (items order.now.chunks)) ≡ None }
-    ensures position { IsPositionOf (filed_key by) (filed_text by row.now) (standing slots.now (items order.now.chunks)) (Err (index_of order.now.chunks result)) }
-    ensures gap { IsGap order.now.chunks result }
+    ensures position { (version : ℕ) → IsGapFor by (row.now, version) (standing slots.now (items order.now.chunks)) (option_map (index_of order.now.chunks) result) }
+    ensures gap { IfSome result (IsGap order.now.chunks) }
 {
+    if !row.is_filed(by) {
+        return None;
+    }
     match position_filed(slots, order, by, row) {
         Ok(_) => unreachable!(),
-        Err(at) => at,
+        Err(at) => Some(at),
     }
 }
 
@@ -118,6 +126,26 @@ pub(crate) fn position_by_slot(
         Ok(at) => at,
         Err(_) => unreachable!(),
     }
+}
+
+// Where the slot stands in an order, where its row is filed in it.
+pub(crate) fn place_of(
+    slots: &[(Row, u32)],
+    order: &Chunks<u32>,
+    by: Filing,
+    slot: u32,
+) -> Option<At>
+    requires slots { AreSlots (length slots.now) (items order.now.chunks) }
+    requires order { InOrder (filed_key by) (standing slots.now (items order.now.chunks)) }
+    requires slot { slot < length slots.now }
+    requires held { is_filed by (row_of slots.now slot).0 ≡ true → list_any (nat_eq slot) (items order.now.chunks) ≡ true }
+    ensures item { IfSome result (IsItem order.now.chunks) }
+    ensures stands { StandsIn by slots.now (items order.now.chunks) slot (option_map (index_of order.now.chunks) result) }
+{
+    if !slots[slot as usize].0.is_filed(by) {
+        return None;
+    }
+    Some(position_by_slot(slots, order, by, slot))
 }
 
 // What rows are filed under, looked for in such an order. A slot that is not there stands below it.
@@ -179,15 +207,37 @@ fn rename(order: &mut Chunks<u32>, found: Result<At, At>, from: u32, to: u32)
     }
 }
 
-// Takes the slot at this position out of the order, and gives another slot its number, at the position where that was looked for.
-pub(crate) fn strike(order: &mut Chunks<u32>, at: At, found: Result<At, At>, from: u32, to: u32)
-    requires item { IsItem order.old.chunks at }
+// Puts a slot into the order at this position, where there is one.
+pub(crate) fn enter(order: &mut Chunks<u32>, at: Option<At>, slot: u32)
+    requires gap { IfSome at (IsGap order.old.chunks) }
+    requires spare { 1 ≤ order.old.spare }
+    ensures slots { items order.new.chunks ≡ entered (option_map (index_of order.old.chunks) at) slot (items order.old.chunks) }
+    ensures spare { order.old.spare ≤ order.new.spare + 1 }
+{
+    match at {
+        Some(at) => order.insert(at, slot),
+        None => {}
+    }
+}
+
+// Takes the slot at this position out of the order, where there is one, and gives another slot its number, at the position where that was looked for.
+pub(crate) fn strike(
+    order: &mut Chunks<u32>,
+    at: Option<At>,
+    found: Result<At, At>,
+    from: u32,
+    to: u32,
+)
+    requires item { IfSome at (IsItem order.old.chunks) }
     requires found { MatchResult found (IsItem order.old.chunks) (IsGap order.old.chunks) }
-    ensures slots { items order.new.chunks ≡ remove (renamed (index_found order.old.chunks found) from to (items order.old.chunks)) (index_of order.old.chunks at) }
+    ensures slots { items order.new.chunks ≡ left_out (option_map (index_of order.old.chunks) at) (renamed (index_found order.old.chunks found) from to (items order.old.chunks)) }
     ensures spare { order.old.spare ≤ order.new.spare }
 {
     rename(order, found, from, to);
-    order.remove(at);
+    match at {
+        Some(at) => order.remove(at),
+        None => {}
+    }
 }
 
 // Drops the row in a slot. The last slot's row moves to it.

@@ -3,7 +3,7 @@ ghost use Rattle.std.specs.Cmp.Lexicographic.{slice_cmp};
 ghost use Rattle.std.specs.Ordering.{nat_cmp};
 ghost use Rattle.rv_rows.specs.Keys.{key_text, row_key, row_text};
 ghost use Rattle.rv_rows.specs.Sharing.{is_any_extent, belongs, lets_edit, list_of, shares, user_of};
-ghost use Rattle.rv_rows.specs.Filed.{filed_text, sort_of, then_by, under};
+ghost use Rattle.rv_rows.specs.Filed.{filed_text, is_filed, sort_of, then_by, under};
 ghost use Rattle.rv_rows.specs.Effects.{sort_after, with_fields, with_role};
 ghost use Rattle.rv_rows.specs.declared.filing.Filing.TheVariants as filings;
 ghost use Rattle.rv_rows.specs.declared.filing.Filing.TheVariants.{Sort};
@@ -189,6 +189,13 @@ impl Row {
             Filing::User => self.user(),
             Filing::Sort => self.list_text(),
         }
+    }
+
+    // Whether the row is filed in an order: under something.
+    pub(crate) fn is_filed(&self, by: Filing) -> bool
+        ensures { result ≡ is_filed by self.now }
+    {
+        !self.under(by).is_empty()
     }
 
     // Whether the row is filed as another in each order: under the same list and the same user, and with the same sort.

@@ -163,13 +163,13 @@ impl Tables {
         ensures rows { result ≡ filter (λ s. bytes_eq (user_of s.0) user.now) self.now.rows }
         ensures order { AreRows self.now.rows }
     {
-        self.rows.of_user(user.as_str())
+        self.rows.of_user(user)
     }
     /// The greatest sort of the todos of a list, and 0 where it has none. Takes no memory, and walks no rows.
     pub fn greatest_sort(&self, list: &Id) -> u64
         ensures { result ≡ greatest_sort list.now (rows_in self.now.rows) }
     {
-        self.rows.greatest_sort(list.as_str())
+        self.rows.greatest_sort(list)
     }
 }
 

@@ -26,6 +26,6 @@ returns-clause-rows c =
     let inside = c.self.inside in
     c.new.ensures
     ∙ ap (λ (slots : List Stored). standing slots c.slots_under.result) c.deref.ensures.value
-    ∙ filed_rows filings.List inside.slots.items (items inside.by_key.chunks) (items inside.by_list.chunks) c.slots_under.result (standing inside.slots.items (items inside.by_key.chunks)) c.args.list.now (λ _. refl) c.self.invariant.0.key_order c.self.invariant.0.lists refl (found_then c)
+    ∙ filed_rows filings.List inside.slots.items (items inside.by_key.chunks) (items inside.by_list.chunks) c.slots_under.result (standing inside.slots.items (items inside.by_key.chunks)) c.args.list.now (λ _. refl) c.as_str.ensures.low c.self.invariant.0.key_order c.self.invariant.0.lists refl (found_then c)
     ∙ (λ i. filter (λ (s : Stored). filed_belongs c.args.list.now c.as_str.ensures.low s.0 i) (standing inside.slots.items (items inside.by_key.chunks)))
     ∙ ap (λ (v : Slotted). filter (λ (s : Stored). belongs c.args.list.now s.0) (rows_of v)) c.self.view_is

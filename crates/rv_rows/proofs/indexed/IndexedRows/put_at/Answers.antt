@@ -1,12 +1,12 @@
 use Rattle.std.proofs.Common.{◌≡◌, List, None, ap, ◌∙◌, refl, subst, sym, arith, length}
 use Rattle.std.specs.List.{insert}
-use Rattle.rv_base.specs.Sorted.{find_by, InOrder}
+use Rattle.std.specs.Option.{option_map}
+use Rattle.rv_base.specs.Sorted.{find_by}
 use Rattle.rv_chunks.specs.Chunking.{items, index_of}
 use Rattle.rv_rows.specs.Keys.{row_text}
 use Rattle.rv_rows.specs.Held.{Stored, stored_key, put, AreRows}
-use Rattle.rv_rows.specs.Filed.{filed_key}
 use Rattle.rv_rows.specs.declared.filing.Filing.TheVariants as filings
-use Rattle.rv_rows.specs.Slots.{standing, Slotted, rows_of}
+use Rattle.rv_rows.specs.Slots.{standing, IsGapFor, Slotted, rows_of}
 use Rattle.rv_rows.proofs.RowSlots.{absent_too, pushed, standing_new}
 use Rattle.rv_rows.proofs.indexed.IndexedRows.put_at.Goals as goal
 
@@ -35,19 +35,19 @@ invariant_of-self c =
     let room = ap (λ (v : Slotted). v.spare) c.self.view_is in
     let slots = inside.slots.items in
     let i = index_of inside.by_key.chunks c.args.at in
-    let j = index_of inside.by_list.chunks c.gap_filed-in_list.result in
-    let k = index_of inside.by_user.chunks c.gap_filed-of_user.result in
-    let l = index_of inside.by_sort.chunks c.gap_filed-of_sort.result in
+    let j = option_map (index_of inside.by_list.chunks) c.gap_filed-in_list.result in
+    let k = option_map (index_of inside.by_user.chunks) c.gap_filed-of_user.result in
+    let l = option_map (index_of inside.by_sort.chunks) c.gap_filed-of_sort.result in
     let last : c.len-slot.result ≡ length slots = omega (arith, inside.slots.ok.0) in
     let sorted : AreRows (insert (standing slots (items inside.by_key.chunks)) i x) = subst (λ (v : Slotted). AreRows (insert (rows_of v) (index_of v.by_key c.args.at) x)) (sym c.self.view_is) (c.requires.position.inserted_order x refl) in
-    let listed : InOrder (filed_key filings.List) (insert (standing slots (items inside.by_list.chunks)) j x) =
-    subst (λ (t : List Stored). InOrder (filed_key filings.List) (insert (standing t (items inside.by_list.chunks)) j x)) c.deref.ensures.value (c.gap_filed-in_list.ensures.position.inserted_order x refl) in
-    let named : InOrder (filed_key filings.User) (insert (standing slots (items inside.by_user.chunks)) k x) =
-    subst (λ (t : List Stored). InOrder (filed_key filings.User) (insert (standing t (items inside.by_user.chunks)) k x)) c.deref-2.ensures.value (c.gap_filed-of_user.ensures.position.inserted_order x refl) in
-    let ranked : InOrder (filed_key filings.Sort) (insert (standing slots (items inside.by_sort.chunks)) l x) =
-    subst (λ (t : List Stored). InOrder (filed_key filings.Sort) (insert (standing t (items inside.by_sort.chunks)) l x)) c.deref-3.ensures.value (c.gap_filed-of_sort.ensures.position.inserted_order x refl) in (
-      pushed slots c.push.new.slots.items (items inside.by_key.chunks) (items c.insert.new.self.chunks) (items inside.by_list.chunks) (items c.insert-2.new.self.chunks) (items inside.by_user.chunks) (items c.insert-3.new.self.chunks) (items inside.by_sort.chunks) (items c.insert-4.new.self.chunks)
-          x i j k l c.len-slot.result c.self.invariant.0 sorted listed named ranked c.push.ensures.rows last c.insert.ensures.items c.insert-2.ensures.items c.insert-3.ensures.items c.insert-4.ensures.items,
+    let listed : IsGapFor filings.List x (standing slots (items inside.by_list.chunks)) j =
+    subst (λ (t : List Stored). IsGapFor filings.List x (standing t (items inside.by_list.chunks)) j) c.deref.ensures.value (c.gap_filed-in_list.ensures.position c.args.version) in
+    let named : IsGapFor filings.User x (standing slots (items inside.by_user.chunks)) k =
+    subst (λ (t : List Stored). IsGapFor filings.User x (standing t (items inside.by_user.chunks)) k) c.deref-2.ensures.value (c.gap_filed-of_user.ensures.position c.args.version) in
+    let ranked : IsGapFor filings.Sort x (standing slots (items inside.by_sort.chunks)) l =
+    subst (λ (t : List Stored). IsGapFor filings.Sort x (standing t (items inside.by_sort.chunks)) l) c.deref-3.ensures.value (c.gap_filed-of_sort.ensures.position c.args.version) in (
+      pushed slots c.push.new.slots.items (items inside.by_key.chunks) (items c.insert.new.self.chunks) (items inside.by_list.chunks) (items c.enter.new.order.chunks) (items inside.by_user.chunks) (items c.enter-2.new.order.chunks) (items inside.by_sort.chunks) (items c.enter-3.new.order.chunks)
+          x i c.len-slot.result j k l c.self.invariant.0 sorted listed named ranked c.push.ensures.rows last c.insert.ensures.items c.enter.ensures.slots c.enter-2.ensures.slots c.enter-3.ensures.slots,
       record {
         slot_space = omega arith;
         key_space = omega arith;
