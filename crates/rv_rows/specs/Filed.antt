@@ -37,11 +37,14 @@ abbrev pub falling : ℕ → List ℕ
 falling zero = 1 ∷ []
 falling (suc sort) = 0 ∷ falling sort
 
--- what comes then: the row's key, and before it the sort in the order by sorts
+-- what comes then, of a sort and a key: the key, and before it the sort in the order by sorts
+abbrev pub then_of : Filing → ℕ → List ℕ → List ℕ
+then_of filings.List sort key = key
+then_of filings.User sort key = key
+then_of filings.Sort sort key = falling sort ++ key
+
 abbrev pub then_by : Filing → Row → List ℕ
-then_by filings.List row = row_text row
-then_by filings.User row = row_text row
-then_by filings.Sort row = falling (sort_of row) ++ row_text row
+then_by by row = then_of by (sort_of row) (row_text row)
 
 abbrev pub filed_text : Filing → Row → List ℕ
 filed_text by row = filed (under by row) (then_by by row)

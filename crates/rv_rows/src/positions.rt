@@ -1,11 +1,14 @@
 // Rows in slots, positions in orders of slots, and how they are looked for: how the row of each slot stands to what is sought.
 ghost use Rattle.std.specs.Prelude.{◌≡◌, ℕ, ◌≤◌, ◌<◌, ◌+◌, None, nat_eq, ◌∷◌, ◌++◌, [], length, true, option_map, slice_index_or, slice_set, vec_len, vec_capacity, IfSome, MatchResult};
 ghost use Rattle.std.specs.List.{list_any, filter};
+ghost use Rattle.std.specs.Ordering.{nat_cmp};
+ghost use Rattle.std.specs.Cmp.Lexicographic.{slice_cmp};
 ghost use Rattle.rv_base.specs.Sorted.{IsPositionOf, InOrder, find_by};
 ghost use Rattle.rv_chunks.specs.Chunking.{items, index_of, index_found, IsItem, IsGap};
 ghost use Rattle.rv_rows.specs.Keys.{key_text};
 ghost use Rattle.rv_rows.specs.Held.{AreRows, stored_key};
-ghost use Rattle.rv_rows.specs.Filed.{filed_key, filed_text, is_filed, under};
+ghost use Rattle.rv_rows.specs.Filed.{filed, filed_key, filed_text, is_filed, then_by, then_of, under};
+ghost use Rattle.rv_rows.specs.declared.filing.Filing.TheVariants.{Sort};
 ghost use Rattle.rv_rows.specs.Slots.{by_slot, row_of, standing, entered, left_out, AreSlots, IsGapFor, StandsIn, is_under, relabelled, renamed, Vacates};
 
 use crate::filing::Filing;
@@ -50,21 +53,60 @@ pub(crate) fn position_by_key(
     order.position(&SoughtKey { slots, kind, id })
 }
 
-// A row that is looked for in an order by what rows are filed under. A slot that is not there stands below it.
+// A row that is looked for in an order by what rows are filed under: what it is filed under, its sort and its key. A slot that is not there
+// stands below it.
 #[derive(Drop)]
 struct SoughtRow<'a> {
     slots: &'a [(Row, u32)],
     by: Filing,
-    row: &'a Row,
+    under: &'a str,
+    sort: u64,
+    kind: Kind,
+    id: &'a str,
+}
+
+impl<'a> SoughtRow<'a> {
+    // How a row stands to it: by what they are filed under, and where that is the same by what comes then.
+    fn compare_row(&self, row: &Row) -> Ordering
+        ensures { result ≡ slice_cmp nat_cmp (filed_text self.now.by row.now) (filed self.now.under.now (then_of self.now.by self.now.sort (key_text (record { kind = self.now.kind; id = self.now.id.now })))) }
+    {
+        match row.under(self.by).cmp(self.under) {
+            Ordering::Less => Ordering::Less,
+            Ordering::Equal => self.compare_then(row),
+            Ordering::Greater => Ordering::Greater,
+        }
+    }
+
+    // How a row that is filed under the same stands to it: by the keys, and in the order by sorts first by those.
+    fn compare_then(&self, row: &Row) -> Ordering
+        ensures { result ≡ slice_cmp nat_cmp (then_by self.now.by row.now) (then_of self.now.by self.now.sort (key_text (record { kind = self.now.kind; id = self.now.id.now }))) }
+    {
+        match self.by {
+            Filing::List => row.compare_key(self.kind, self.id),
+            Filing::User => row.compare_key(self.kind, self.id),
+            Filing::Sort => self.compare_sorts(row),
+        }
+    }
+
+    // By the sorts, from the greatest down, and where they are the same by the keys.
+    fn compare_sorts(&self, row: &Row) -> Ordering
+        ensures { result ≡ slice_cmp nat_cmp (then_by Sort row.now) (then_of Sort self.now.sort (key_text (record { kind = self.now.kind; id = self.now.id.now }))) }
+    {
+        match self.sort.cmp(&row.sort()) {
+            Ordering::Less => Ordering::Less,
+            Ordering::Equal => row.compare_key(self.kind, self.id),
+            Ordering::Greater => Ordering::Greater,
+        }
+    }
 }
 
 impl<'a> Compare<u32> for SoughtRow<'a> {
-    ghost order = { λ sought slot. by_slot (filed_key sought.by) (filed_text sought.by sought.row.now) sought.slots.now slot };
+    ghost order = { λ sought slot. by_slot (filed_key sought.by) (filed sought.under.now (then_of sought.by sought.sort (key_text (record { kind = sought.kind; id = sought.id.now })))) sought.slots.now slot };
 
     fn compare(&self, slot: &u32) -> Ordering {
         let slot = *slot as usize;
         if slot < self.slots.len() {
-            self.slots[slot].0.compare_filed(self.by, self.row)
+            self.compare_row(&self.slots[slot].0)
         } else {
             Ordering::Less
         }
@@ -83,7 +125,14 @@ pub(crate) fn position_filed(
     ensures position { IsPositionOf (filed_key by) (filed_text by row.now) (standing slots.now (items order.now.chunks)) (index_found order.now.chunks result) }
     ensures at { MatchResult result (IsItem order.now.chunks) (IsGap order.now.chunks) }
 {
-    order.position(&SoughtRow { slots, by, row })
+    order.position(&SoughtRow {
+        slots,
+        by,
+        under: row.under(by),
+        sort: row.sort(),
+        kind: row.kind(),
+        id: row.id(),
+    })
 }
 
 // Where the row goes in an order, where it is filed in it.

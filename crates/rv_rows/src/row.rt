@@ -3,10 +3,9 @@ ghost use Rattle.std.specs.Cmp.Lexicographic.{slice_cmp};
 ghost use Rattle.std.specs.Ordering.{nat_cmp};
 ghost use Rattle.rv_rows.specs.Keys.{key_text, row_key, row_text};
 ghost use Rattle.rv_rows.specs.Sharing.{is_any_extent, belongs, lets_edit, list_of, shares, user_of};
-ghost use Rattle.rv_rows.specs.Filed.{filed_text, is_filed, sort_of, then_by, under};
+ghost use Rattle.rv_rows.specs.Filed.{is_filed, sort_of, under};
 ghost use Rattle.rv_rows.specs.Effects.{sort_after, with_fields, with_role};
 ghost use Rattle.rv_rows.specs.declared.filing.Filing.TheVariants as filings;
-ghost use Rattle.rv_rows.specs.declared.filing.Filing.TheVariants.{Sort};
 ghost use Rattle.rv_rows.specs.declared.row.Row.TheVariants.{Share, Todo};
 
 use crate::filing::Filing;
@@ -205,39 +204,6 @@ impl Row {
         self.list_text() == other.list_text()
             && self.user() == other.user()
             && self.sort() == other.sort()
-    }
-
-    // How the row stands to another: by what they are filed under, and where that is the same by what comes then.
-    pub(crate) fn compare_filed(&self, by: Filing, other: &Row) -> Ordering
-        ensures { result ≡ slice_cmp nat_cmp (filed_text by self.now) (filed_text by other.now) }
-    {
-        match self.under(by).cmp(other.under(by)) {
-            Ordering::Less => Ordering::Less,
-            Ordering::Equal => self.compare_then(by, other),
-            Ordering::Greater => Ordering::Greater,
-        }
-    }
-
-    // How the row stands to another that is filed under the same: by the keys, and in the order by sorts first by those.
-    fn compare_then(&self, by: Filing, other: &Row) -> Ordering
-        ensures { result ≡ slice_cmp nat_cmp (then_by by self.now) (then_by by other.now) }
-    {
-        match by {
-            Filing::List => self.compare_key(other.kind(), other.id()),
-            Filing::User => self.compare_key(other.kind(), other.id()),
-            Filing::Sort => self.compare_sorts(other),
-        }
-    }
-
-    // By the sorts, from the greatest down, and where they are the same by the keys.
-    fn compare_sorts(&self, other: &Row) -> Ordering
-        ensures { result ≡ slice_cmp nat_cmp (then_by Sort self.now) (then_by Sort other.now) }
-    {
-        match other.sort().cmp(&self.sort()) {
-            Ordering::Less => Ordering::Less,
-            Ordering::Equal => self.compare_key(other.kind(), other.id()),
-            Ordering::Greater => Ordering::Greater,
-        }
     }
 
     // Whether the row is an extent.
