@@ -1,5 +1,5 @@
 -- What searches among chunks say of all their items.
-use Rattle.std.proofs.Common.{◌≡◌, ℕ, zero, suc, ◌+◌, ◌-◌, ◌<◌, ◌≤◌, Bool, true, false, List, [], ◌∷◌, ◌++◌, length, map, get_or, take, drop, refl, sym, ap, ◌∙◌, subst, arith, append_assoc, length-append}
+use Rattle.std.proofs.Common.{◌≡◌, ℕ, zero, suc, ◌+◌, ◌-◌, ◌<◌, ◌≤◌, Bool, true, false, cond, List, [], ◌∷◌, ◌++◌, length, map, get_or, slice_get, take, drop, Option, Some, None, refl, sym, ap, ◌∙◌, subst, arith, append_assoc, length-append}
 use Rattle.std.specs.declared.cmp.Ordering.{Ordering}
 use Rattle.std.specs.declared.cmp.Ordering.TheVariants.{Less, Equal, Greater}
 use Rattle.std.specs.Ordering.{ordering_index, is_lt, is_le, is_eq, is_gt}
@@ -74,6 +74,16 @@ tied : (a : Ordering) → is_lt a ≡ false → is_le a ≡ true → is_eq a ≡
 tied Less e f = absurd (true≢false e)
 tied Equal e f = refl
 tied Greater e f = absurd (false≢true f)
+
+not_tied : (a : Ordering) → is_lt a ≡ false → is_eq a ≡ false → is_le a ≡ false
+not_tied Less e f = absurd (true≢false e)
+not_tied Equal e f = absurd (true≢false f)
+not_tied Greater e f = refl
+
+-- nothing stands first only where nothing stands
+pub none_first : {X : Type 0} (xs : List X) → None ≡ slice_get xs 0 → length xs ≡ 0
+none_first [] e = refl
+none_first (x ∷ xs) e = absurd (cc)
 
 -- a search among things that are seen through a function
 module _ {X Y : Type 0} (f : X → Y) (test : Y → Bool) where
@@ -228,6 +238,46 @@ module _ {A : Type 0} (o : A → Ordering) where
       ∙ (λ i. middle i ++ high i)
       ∙ append-nil (take e rest))
 
+  -- the first of those of a chunk
+  first_of : (rest : List A) (x : A) → 0 < length rest → x ≡ get_or rest 0 x → AllByRecursion (λ x. is_lt (o x) ≡ false) rest → Rise o rest → cond (is_eq (o x)) (Some x) None ≡ slice_get (filter Tie rest) 0
+  first_of [] x some is all h = absurd (omega arith)
+  first_of (y ∷ ys) x some is all h =
+      elim (is_eq (o y)) as (λ b. is_eq (o y) ≡ b → cond (is_eq (o x)) (Some x) None ≡ slice_get (cond b (y ∷ filter Tie ys) (filter Tie ys)) 0) [
+        | true ↦ λ e. (λ i. cond (is_eq (o (is i))) (Some (is i)) None) ∙ ap (λ (b : Bool). cond b (Some y) None) e
+        | false ↦ λ e.
+            let first : is_le (o y) ≡ false = not_tied (o y) all.0 e in
+            (λ i. cond (is_eq (o (is i))) (Some (is i)) None)
+            ∙ ap (λ (b : Bool). cond b (Some y) None) e
+            ∙ ap (λ (t : List A). slice_get t 0) (sym (higher_none ys (all-to (NotAfter o y) (λ z. is_le (o z) ≡ false) ys (λ z le. above_up (o y) (o z) le first) h.0)))
+      ] refl
+
+  upper_ties : (chunk rest : List A) (b : ℕ) → rest ≡ drop b chunk → b ≤ length chunk → (IsPartitionedBy Below chunk → IsPartitionPoint (λ x. is_lt (o x) ≡ true) (λ x. is_lt (o x) ≡ false) chunk b) → Rises o chunk
+      → (filter Tie chunk ≡ filter Tie rest) × AllByRecursion (λ x. is_lt (o x) ≡ false) rest × Rise o rest
+  upper_ties chunk rest b is b_in parts rises =
+      let h : Rise o (take b chunk ++ drop b chunk) = subst (λ (t : List A). Rise o t) (sym (take-append-drop b chunk)) (rise_of o chunk rises) in
+      let below = parts (λ i j d le lt e. lt_down (o (get_or chunk i d)) (o (get_or chunk j d)) (rises i j d le lt) e) in
+      let low : filter Tie (take b chunk) ≡ [] = lower_none (take b chunk) (to_take (λ x. is_lt (o x) ≡ true) chunk b b_in below.0) in (
+        ap (filter Tie) (sym (take-append-drop b chunk)) ∙ filter-append Tie (take b chunk) (drop b chunk) ∙ ap (λ (t : List A). t ++ filter Tie (drop b chunk)) low ∙ ap (filter Tie) (sym is),
+        subst (λ (t : List A). AllByRecursion (λ x. is_lt (o x) ≡ false) t) (sym is) (to_drop (λ x. is_lt (o x) ≡ false) chunk b b_in below.1),
+        subst (λ (t : List A). Rise o t) (sym is) (rise-right o (take b chunk) (drop b chunk) h),
+      )
+
+  pub chunk_first : (chunk rest : List A) (x : A) (b : ℕ) → rest ≡ drop b chunk → b ≤ length chunk → (IsPartitionedBy Below chunk → IsPartitionPoint (λ x. is_lt (o x) ≡ true) (λ x. is_lt (o x) ≡ false) chunk b) → 0 < length rest → x ≡ get_or rest 0 x
+      → Rises o chunk → cond (is_eq (o x)) (Some x) None ≡ slice_get (filter Tie chunk) 0
+  chunk_first chunk rest x b is b_in parts some first rises =
+      let upper = upper_ties chunk rest b is b_in parts rises in
+      first_of rest x some first upper.1 upper.2 ∙ ap (λ (t : List A). slice_get t 0) (sym upper.0)
+
+  pub chunk_none : (chunk rest : List A) (b : ℕ) → rest ≡ drop b chunk → b ≤ length chunk → (IsPartitionedBy Below chunk → IsPartitionPoint (λ x. is_lt (o x) ≡ true) (λ x. is_lt (o x) ≡ false) chunk b) → None ≡ slice_get rest 0
+      → Rises o chunk → None ≡ slice_get (filter Tie chunk) 0
+  chunk_none chunk rest b is b_in parts none rises =
+      let upper = upper_ties chunk rest b is b_in parts rises in
+      ap (λ (t : List A). slice_get t 0) (sym (upper.0 ∙ nothing rest none))
+    where
+      nothing : (rest : List A) → None ≡ slice_get rest 0 → filter Tie rest ≡ []
+      nothing [] e = refl
+      nothing (x ∷ rest) e = absurd (cc)
+
   -- those of all chunks
   pub no_ties : (chunks : List (List A)) (n : ℕ) → HaveItems chunks → n ≤ length chunks → PartsChunks Below chunks n → Rises o (items chunks) → drop n chunks ≡ [] → filter Tie (items chunks) ≡ []
   no_ties chunks n some le parted rises none =
@@ -293,6 +343,53 @@ module _ {A : Type 0} (o : A → Ordering) where
       ∙ ap (λ (t : List A). t ++ filter Tie (chunk ++ items others)) low
       ∙ filter-append Tie chunk (items others)
       ∙ ap (λ (t : List A). filter Tie chunk ++ t) rest
+
+  -- a chunk that does not end below and has no item that ties ends above
+  ends_high : (chunk : List A) → 1 ≤ length chunk → ends Below chunk ≡ false → filter Tie chunk ≡ [] → ends NotAbove chunk ≡ false
+  ends_high [] some e none = absurd (omega arith)
+  ends_high (x ∷ []) some e none =
+      elim (is_eq (o x)) as (λ b. is_eq (o x) ≡ b → cond b (x ∷ []) [] ≡ [] → is_le (o x) ≡ false) [
+        | true ↦ λ _ n. absurd (cc)
+        | false ↦ λ f _. not_tied (o x) e f
+      ] refl none
+  ends_high (x ∷ y ∷ ys) some e none =
+      ends_high (y ∷ ys) (omega arith) e (elim (is_eq (o x)) as (λ b. cond b (x ∷ filter Tie (y ∷ ys)) (filter Tie (y ∷ ys)) ≡ [] → filter Tie (y ∷ ys) ≡ []) [
+        | true ↦ λ n. absurd (cc)
+        | false ↦ λ n. n
+      ] none)
+
+  -- so the first of those of all chunks stands in the first chunk that does not end below
+  first_tie : (chunks : List (List A)) (n : ℕ) (chunk : List A) (others : List (List A)) → HaveItems chunks → n ≤ length chunks → PartsChunks Below chunks n → drop n chunks ≡ chunk ∷ others → Rises o (items chunks)
+      → slice_get (filter Tie chunk) 0 ≡ slice_get (filter Tie (items chunks)) 0
+  first_tie chunks n chunk others some le parted is rises =
+      let h : Rise o (items chunks) = rise_of o (items chunks) rises in
+      let point = parted (partitioned o is_lt lt_down chunks some h) in
+      let at = first_dropped chunks n chunk others is in
+      let front : List A = items (take n chunks) in
+      let whole : items chunks ≡ front ++ (chunk ++ items others) = ap items (sym (take-append-drop n chunks)) ∙ items-append (take n chunks) (drop n chunks) ∙ ap (λ (ps : List (List A)). front ++ items ps) is in
+      let from_chunk : Rise o (chunk ++ items others) = rise-right o front (chunk ++ items others) (subst (λ (t : List A). Rise o t) whole h) in
+      let have : HaveItems (chunk ∷ others) = subst HaveItems is (have-drop chunks n some) in
+      let low : filter Tie front ≡ [] = lower_none front (chunks_pass o is_lt lt_down chunks n le h point.0) in
+      let last : ends Below chunk ≡ false = ap (ends Below) (sym at.1) ∙ point.1 n [] (omega arith) at.0 in
+      let all : filter Tie (items chunks) ≡ filter Tie chunk ++ filter Tie (items others) =
+      ap (filter Tie) whole ∙ filter-append Tie front (chunk ++ items others) ∙ ap (λ (t : List A). t ++ filter Tie (chunk ++ items others)) low ∙ filter-append Tie chunk (items others) in
+      heads (filter Tie chunk) refl have.0 last from_chunk ∙ ap (λ (t : List A). slice_get t 0) (sym all)
+    where
+      heads : (found : List A) → filter Tie chunk ≡ found → 1 ≤ length chunk → ends Below chunk ≡ false → Rise o (chunk ++ items others) → slice_get (filter Tie chunk) 0 ≡ slice_get (filter Tie chunk ++ filter Tie (items others)) 0
+      heads [] e have last h =
+          let rest : filter Tie (items others) ≡ [] = higher_none (items others) (last_fails o is_le le_down chunk (items others) have h (ends_high chunk have last e)) in
+          ap (λ (t : List A). slice_get t 0) e ∙ (λ i. slice_get (sym e i ++ sym rest i) 0)
+      heads (x ∷ found) e have last h = ap (λ (t : List A). slice_get t 0) e ∙ ap (λ (t : List A). slice_get (t ++ filter Tie (items others)) 0) (sym e)
+
+  pub first_found : {X : Type 0} (f : X → List A) (vs rest : List X) (v : X) (n : ℕ) (found : Option A) → HaveItems (map f vs) → n ≤ length vs → PartsChunks Below (map f vs) n → rest ≡ drop n vs → 0 < length rest → v ≡ get_or rest 0 v
+      → (Rises o (f v) → found ≡ slice_get (filter Tie (f v)) 0) → Rises o (items (map f vs)) → found ≡ slice_get (filter Tie (items (map f vs))) 0
+  first_found {X} f vs rest v n found some le parted is rest_some first told rises = parts rest is rest_some first
+    where
+      parts : (rest : List X) → rest ≡ drop n vs → 0 < length rest → v ≡ get_or rest 0 v → found ≡ slice_get (filter Tie (items (map f vs))) 0
+      parts [] is rest_some first = absurd (omega arith)
+      parts (w ∷ ws) is rest_some first =
+          let cut : drop n (map f vs) ≡ f v ∷ map f ws = drop-map f n vs ∙ ap (map f) (sym is) ∙ ap (λ (u : X). f u ∷ map f ws) (sym first) in
+          told (first_rises (map f vs) n (f v) (map f ws) cut rises) ∙ first_tie (map f vs) n (f v) (map f ws) some (omega (arith, length-map vs f)) parted cut rises
 
   -- those of all chunks, as they are found
   pub ties_found : {X : Type 0} (f : X → List A) (vs ws middle after : List X) (v : X) (n e : ℕ) (chunk first last result : List A) → HaveItems (map f vs) → n ≤ length vs → PartsChunks Below (map f vs) n → drop n vs ≡ v ∷ ws → e ≤ length ws → PartsChunks NotAbove (map f ws) e

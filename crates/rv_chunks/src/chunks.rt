@@ -1,4 +1,4 @@
-ghost use Rattle.std.specs.Prelude.{◌≡◌, ◌≤◌, ◌+◌, ◌++◌, [], length, slice_index_or, slice_set, IsOk, OnOk, MatchResult};
+ghost use Rattle.std.specs.Prelude.{◌≡◌, ◌≤◌, ◌+◌, ◌++◌, [], length, option_map, slice_get, slice_index_or, slice_set, IsOk, OnOk, MatchResult};
 ghost use Rattle.std.specs.Ordering.{is_eq};
 ghost use Rattle.std.specs.List.{filter, insert, remove as removed};
 ghost use Rattle.std.specs.List.Sorted.{IsSearchInRange, IsBinarySearchResult};
@@ -8,7 +8,7 @@ ghost use Rattle.rv_chunks.specs.Vectors.{lists, HaveItems};
 
 use crate::at::At;
 use crate::edits::{begin, fill, put_at, put_in_full, take_out, write_at};
-use crate::search::{Compare, position_in, ties_in};
+use crate::search::{Compare, first_tie_in, position_in, ties_in};
 use rv_base::Memory;
 use std::alloc::Global;
 use std::marker::Model;
@@ -139,6 +139,14 @@ impl<T: Drop> Chunks<T> {
         ensures { result ≡ filter (λ item. is_eq (C.order sought.now item)) (items self.now.chunks) }
     {
         ties_in(&self.chunks, sought)
+    }
+
+    /// The first of the items that tie with what is looked for. Takes no memory.
+    pub fn first_tie<C: Compare<T>>(&self, sought: &C) -> Option<&T>
+        requires { Rises (C.order sought.now) (items self.now.chunks) }
+        ensures { option_map (λ item. item.now) result ≡ slice_get (filter (λ item. is_eq (C.order sought.now item)) (items self.now.chunks)) 0 }
+    {
+        first_tie_in(&self.chunks, sought)
     }
 }
 

@@ -1,5 +1,5 @@
 // Searches among chunks.
-ghost use Rattle.std.specs.Prelude.{◌≡◌, ◌≤◌, ◌<◌, [], length, IsTrue, MatchResult};
+ghost use Rattle.std.specs.Prelude.{◌≡◌, ◌≤◌, ◌<◌, [], length, option_map, slice_get, IsTrue, MatchResult};
 ghost use Rattle.std.specs.declared.cmp.Ordering.{Ordering};
 ghost use Rattle.std.specs.Ordering.{is_lt, is_le, is_eq};
 ghost use Rattle.std.specs.List.{filter};
@@ -167,5 +167,34 @@ pub(crate) fn ties_in<'a, T, C: Compare<T>>(chunks: &'a [Vec<T>], sought: &C) ->
             )
         }
         None => Walk::new(&[], &[], &[]),
+    }
+}
+
+// The first of the items of a chunk that tie with what is looked for.
+fn first_tie_in_chunk<'a, T, C: Compare<T>>(chunk: &'a [T], sought: &C) -> Option<&'a T>
+    ensures { Rises (C.order sought.now) chunk.now → option_map (λ item. item.now) result ≡ slice_get (filter (λ i. is_eq (C.order sought.now i)) chunk.now) 0 }
+{
+    let below = chunk.partition_point(|item| sought.compare(item).is_lt());
+    match chunk[below..].first() {
+        Some(item) => {
+            if sought.compare(item).is_eq() {
+                Some(item)
+            } else {
+                None
+            }
+        }
+        None => None,
+    }
+}
+
+// The first of the items that tie with what is looked for. It stands in the first chunk that does not end below, or nowhere.
+pub(crate) fn first_tie_in<'a, T, C: Compare<T>>(chunks: &'a [Vec<T>], sought: &C) -> Option<&'a T>
+    requires { HaveItems (lists chunks.now) }
+    ensures { Rises (C.order sought.now) (items (lists chunks.now)) → option_map (λ item. item.now) result ≡ slice_get (filter (λ i. is_eq (C.order sought.now i)) (items (lists chunks.now))) 0 }
+{
+    let start = chunks_below(chunks, sought);
+    match chunks[start..].first() {
+        Some(chunk) => first_tie_in_chunk(chunk, sought),
+        None => None,
     }
 }

@@ -1,10 +1,11 @@
 -- In the order by sorts the first of the rows of a list has its greatest sort.
-use Rattle.std.proofs.Common.{◌≡◌, ℕ, ◌≤◌, Bool, false, cond, ◌||◌, List, [], ◌∷◌, length, map, refl, sym, ap, ◌∙◌, subst, nat_lt, arith}
+use Rattle.std.proofs.Common.{◌≡◌, ℕ, ◌≤◌, Bool, false, cond, ◌||◌, List, [], ◌∷◌, Some, None, slice_get, drop, length, map, refl, sym, ap, ◌∙◌, subst, nat_lt, arith}
 use Rattle.std.specs.Prelude.{fold}
 use Rattle.std.specs.Str.{bytes_eq}
 use Rattle.std.specs.List.{filter, list_any, AllByRecursion}
 use Rattle.std.proofs.lemmas.Bool.Decides.{nat_tests}
 use Rattle.std.proofs.lemmas.Slice.Eq.{bytes_eq-Decides}
+use Rattle.std.proofs.lemmas.Option.{none-some, same_Some}
 use Rattle.rv_base.specs.Sorted.{InOrder}
 use Rattle.rv_base.specs.PositionLaws.{Above}
 use Rattle.rv_rows.specs.declared.row.Row.{Row}
@@ -18,6 +19,15 @@ use Rattle.rv_rows.specs.EffectLaws.{greatest_sort-same}
 use Rattle.rv_rows.proofs.FiledLaws.{sort-falls}
 use Rattle.rv_rows.proofs.FiledSlots.{all_under, filed_under, filter-standing, own_slots}
 use Rattle.rv_rows.proofs.SlotLaws.{by_flag}
+
+-- what stands first, and that nothing does
+pub first_get : (xs : List ℕ) (x : ℕ) → slice_get xs 0 ≡ Some x → xs ≡ x ∷ drop 1 xs
+first_get [] x e = absurd (none-some x e)
+first_get (y ∷ xs) x e = λ i. same_Some y x e i ∷ xs
+
+pub nothing_get : (xs : List ℕ) → slice_get xs 0 ≡ None → xs ≡ []
+nothing_get [] e = refl
+nothing_get (y ∷ xs) e = absurd (none-some y (sym e))
 
 -- a row's sort in its own list, and in another
 own_sort : (list : List ℕ) (row : Row) → under filings.Sort row ≡ list → sort_in list row ≡ sort_of row

@@ -14,8 +14,8 @@ ghost use Rattle.rv_rows.specs.Slots.{rows_of, no_row};
 use crate::filing::Filing;
 use crate::key::Kind;
 use crate::positions::{
-    enter, gap_filed, place_of, position_by_key, position_filed, push, rewrite, slots_under,
-    strike, vacate,
+    enter, first_under, gap_filed, place_of, position_by_key, position_filed, push, rewrite,
+    slots_under, strike, vacate,
 };
 use crate::row::Row;
 use crate::tables::RowsInOrder;
@@ -246,8 +246,8 @@ impl IndexedRows {
     pub(crate) fn greatest_sort(&self, list: &Id) -> u64
         ensures { result ≡ greatest_sort list.now (rows_in (rows_of self.now)) }
     {
-        match slots_under(&self.slots, &self.by_sort, Filing::Sort, list.as_str()).next() {
-            Some(slot) => self.slots[*slot as usize].0.sort(),
+        match first_under(&self.slots, &self.by_sort, Filing::Sort, list.as_str()) {
+            Some(slot) => self.slots[slot as usize].0.sort(),
             None => 0,
         }
     }

@@ -1,5 +1,5 @@
 // Rows in slots, positions in orders of slots, and how they are looked for: how the row of each slot stands to what is sought.
-ghost use Rattle.std.specs.Prelude.{◌≡◌, ℕ, ◌≤◌, ◌<◌, ◌+◌, None, nat_eq, ◌∷◌, ◌++◌, [], length, true, option_map, slice_index_or, slice_set, vec_len, vec_capacity, IfSome, MatchResult};
+ghost use Rattle.std.specs.Prelude.{◌≡◌, ℕ, ◌≤◌, ◌<◌, ◌+◌, None, nat_eq, ◌∷◌, ◌++◌, [], length, true, option_map, slice_get, slice_index_or, slice_set, vec_len, vec_capacity, IfSome, MatchResult};
 ghost use Rattle.std.specs.List.{list_any, filter};
 ghost use Rattle.std.specs.Ordering.{nat_cmp};
 ghost use Rattle.std.specs.Cmp.Lexicographic.{slice_cmp};
@@ -230,6 +230,20 @@ pub(crate) fn slots_under<'o>(
     ensures { result ≡ filter (is_under by text.now slots.now) (items order.now.chunks) }
 {
     order.ties(&SoughtText { slots, by, text })
+}
+
+// The first slot of the rows that are filed under a text.
+pub(crate) fn first_under(
+    slots: &[(Row, u32)],
+    order: &Chunks<u32>,
+    by: Filing,
+    text: &str,
+) -> Option<u32>
+    requires slots { AreSlots (length slots.now) (items order.now.chunks) }
+    requires order { InOrder (filed_key by) (standing slots.now (items order.now.chunks)) }
+    ensures { result ≡ slice_get (filter (is_under by text.now slots.now) (items order.now.chunks)) 0 }
+{
+    order.first_tie(&SoughtText { slots, by, text }).copied()
 }
 
 // The slot, under the number `to` where it has the number `from`.
