@@ -1,6 +1,7 @@
 // The items of a JSON array, and the text of a key.
 ghost use Rattle.std.specs.Prelude.{◌≡◌, IfOk, option_map};
 ghost use Rattle.rv_json.specs.ValueData.{value_data};
+ghost use Rattle.rv_rows.specs.Members.{within};
 ghost use Rattle.rv_record.specs.ValueReading.{utf8_text_in, string_item, text_item, num_item, place_in, place_item, flag_item, role_item};
 
 use json::Value;
@@ -41,6 +42,42 @@ pub(crate) fn text_item<const MIN: usize, const MAX: usize>(
     match item(value, position) {
         None => Ok(None),
         Some(found) => text_of_value(alloc, found),
+    }
+}
+
+// The same, which shares what a known text has where both have the same bytes.
+pub(crate) fn text_item_like<const MIN: usize, const MAX: usize>(
+    alloc: Global,
+    value: &Value<'_>,
+    position: usize,
+    known: Option<&Bounded<MIN, MAX>>,
+) -> Result<Option<Bounded<MIN, MAX>>, Memory>
+    ensures { IfOk result (λ o. o ≡ text_item MIN MAX position (value_data value.now)) }
+{
+    let Some(found) = string_item(value, position) else {
+        return Ok(None);
+    };
+    text_like(alloc, found, known)
+}
+
+// The text, where it is within the bounds; it shares what a known one has where both have the same bytes.
+fn text_like<const MIN: usize, const MAX: usize>(
+    alloc: Global,
+    text: &str,
+    known: Option<&Bounded<MIN, MAX>>,
+) -> Result<Option<Bounded<MIN, MAX>>, Memory>
+    ensures { IfOk result (λ o. o ≡ within MIN MAX text.now) }
+{
+    match known {
+        Some(known) => {
+            known.fits();
+            if known.as_str() == text {
+                Ok(Some(known.copy(alloc)?))
+            } else {
+                text_within(alloc, text)
+            }
+        }
+        None => text_within(alloc, text),
     }
 }
 

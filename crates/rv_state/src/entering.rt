@@ -33,7 +33,7 @@ fn next_entry(
 {
     // The book's limit, and so its next place, is that of a key.
     book.fits();
-    let (place, entry) = entry_of_cell(alloc, cell, scratch)?;
+    let (place, entry) = entry_of_cell(alloc, cell, book.entry(book.len()), scratch)?;
     entry_fits(&entry);
     if may_follow(book, place, &entry) {
         Ok(entry)

@@ -38,7 +38,7 @@ fn place_of(connections: &[Connection], group: &Id) -> usize {
 
 // The place of the connection whose group the entry of a cell names, or that of none.
 fn maker(alloc: Global, connections: &[Connection], cell: &Cell) -> Result<usize, Memory> {
-    match entry_of_cell(alloc, cell, &mut Scratch::new(alloc)) {
+    match entry_of_cell(alloc, cell, None, &mut Scratch::new(alloc)) {
         Ok((_, entry)) => Ok(place_of(connections, group_of(&entry))),
         Err(CellFault::Memory) => Err(Memory),
         Err(CellFault::BadCell(_)) => Ok(usize::MAX),
