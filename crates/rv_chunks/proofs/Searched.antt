@@ -8,10 +8,10 @@ use Rattle.std.specs.List.Sorted.{IsPartitionedBy, IsPartitionPoint}
 use Rattle.std.proofs.lemmas.Bool.{false≢true, true≢false}
 use Rattle.std.proofs.lemmas.List.{take_at, drop_at, take_all, take-append-drop, length-take-le, append-nil, get_or-map, get_or-drop, length-map, length-drop, take-map, drop-map, nil_from_length}
 use Rattle.std.proofs.lemmas.List.Elements.{filter-append}
-use Rattle.rv_chunks.specs.Chunking.{items, Rises}
+use Rattle.rv_chunks.specs.Chunking.{items, Rises, GoesBetween}
 use Rattle.rv_chunks.specs.Vectors.{HaveItems, ends, PartsChunks}
-use Rattle.rv_chunks.specs.IndexLaws.{index_within}
-use Rattle.rv_chunks.proofs.Edited.{items_at, items-append}
+use Rattle.rv_chunks.specs.IndexLaws.{index_within, item_in_range}
+use Rattle.rv_chunks.proofs.Edited.{items_at, items-append, get_one}
 use Rattle.rv_chunks.proofs.Rising.{all-append, all_at, all-right, all-left, all-to, all-both, to_take, to_drop, from_take, from_drop, NotAfter, Rise, rise_of, rises_of, rise-left, rise-right, last_fails, partitioned, chunks_pass}
 
 -- the last item of a chunk
@@ -42,6 +42,11 @@ le_down Equal b le e = refl
 le_down Greater Less le e = absurd (omega arith)
 le_down Greater Equal le e = absurd (omega arith)
 le_down Greater Greater le e = e
+
+least : (a b : Ordering) → ordering_index a ≤ ordering_index b → b ≡ Less → a ≡ Less
+least Less b le e = refl
+least Equal b le e = let n : ordering_index b ≡ 0 = ap ordering_index e in absurd (omega arith)
+least Greater b le e = let n : ordering_index b ≡ 0 = ap ordering_index e in absurd (omega arith)
 
 greatest : (a b : Ordering) → ordering_index a ≤ ordering_index b → a ≡ Greater → b ≡ Greater
 greatest a Less le e = let n : ordering_index a ≡ 2 = ap ordering_index e in absurd (omega arith)
@@ -179,6 +184,15 @@ module _ {A : Type 0} (o : A → Ordering) where
       let below : AllByRecursion (λ x. o x ≡ Less) (take i (items chunks)) = subst (λ (t : List A). AllByRecursion (λ x. o x ≡ Less) t) (sym (ap (take i) whole ∙ take_mid front chunk back m le)) (all-append (λ x. o x ≡ Less) front (take m chunk) lowest low) in
       let above : AllByRecursion (λ x. o x ≡ Greater) (drop i (items chunks)) = subst (λ (t : List A). AllByRecursion (λ x. o x ≡ Greater) t) (sym (ap (drop i) whole ∙ drop_mid front chunk back m le)) (all-append (λ x. o x ≡ Greater) (drop m chunk) back high highest) in
       (from_take (λ x. o x ≡ Less) (items chunks) i (index_within chunks n m lt (omega (arith, ap length is))) below, from_drop (λ x. o x ≡ Greater) (items chunks) i above)
+
+  -- where the items around a gap of a chunk stand around what is looked for, all items do
+  pub point_between : (chunks : List (List A)) (n m : ℕ) → n < length chunks → GoesBetween o (get_or chunks n []) m → Rises o (items chunks) → IsPartitionPoint (λ x. o x ≡ Less) (λ x. o x ≡ Greater) (items chunks) (length (items (take n chunks)) + m)
+  point_between chunks n m lt goes rises =
+      let front : ℕ = length (items (take n chunks)) in
+      let within : front + m < length (items chunks) = item_in_range chunks (record { chunk = n; offset = m }) (lt, goes.1) in (
+        λ j d low below. least (o (get_or (items chunks) j d)) (o (get_or (items chunks) (front + (m - 1)) d)) (rises j (front + (m - 1)) d (omega (arith, goes.0)) (omega (arith, within))) (ap o (get_one chunks n (m - 1) d lt (omega (arith, goes.1))) ∙ goes.2 d),
+        λ j d high below. greatest (o (get_or (items chunks) (front + m) d)) (o (get_or (items chunks) j d)) (rises (front + m) j d high below) (ap o (get_one chunks n m d lt goes.1) ∙ goes.3 d),
+      )
 
   -- where all chunks end below, all items are
   pub point_at_end : (chunks : List (List A)) (n i : ℕ) → HaveItems chunks → n ≡ length chunks → i ≡ length (items chunks) → PartsChunks Below chunks n → Rises o (items chunks) → IsPartitionPoint (λ x. o x ≡ Less) (λ x. o x ≡ Greater) (items chunks) i

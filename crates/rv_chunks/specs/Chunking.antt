@@ -1,6 +1,7 @@
 -- Items in chunks: which stand there, and where each stands or may go.
-use Rattle.std.specs.Prelude.{ℕ, ◌+◌, ◌-◌, ◌<◌, ◌≤◌, List, [], ◌∷◌, ◌++◌, length, take, slice_index_or, Result, Ok, Err}
+use Rattle.std.specs.Prelude.{◌≡◌, ℕ, ◌+◌, ◌-◌, ◌<◌, ◌≤◌, List, [], ◌∷◌, ◌++◌, length, take, slice_index_or, Result, Ok, Err}
 use Rattle.std.specs.declared.cmp.Ordering.{Ordering}
+use Rattle.std.specs.declared.cmp.Ordering.TheVariants.{Less, Greater}
 use Rattle.std.specs.Ordering.{ordering_index}
 use Rattle.std.specs.List.Sorted.{IsNonDecreasingBy}
 use Rattle.rv_chunks.specs.declared.at.At.{At}
@@ -39,3 +40,7 @@ index_found chunks (Err at) = Err (index_of chunks at)
 -- the items stand in an order that never falls
 abbrev pub Rises : {A : Type 0} → (A → Ordering) → List A → Type 0
 Rises order xs = IsNonDecreasingBy (λ x. ordering_index (order x)) xs
+
+-- what is looked for goes between two items: the one before the offset stands before it, the one at the offset after it
+abbrev pub GoesBetween : {A : Type 0} → (A → Ordering) → List A → ℕ → Type 0
+GoesBetween {A = A} order xs n = (1 ≤ n) × (n < length xs) × ((d : A) → order (slice_index_or xs (n - 1) d) ≡ Less) × ((d : A) → order (slice_index_or xs n d) ≡ Greater)

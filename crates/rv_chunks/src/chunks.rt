@@ -8,7 +8,7 @@ ghost use Rattle.rv_chunks.specs.Vectors.{lists, HaveItems};
 
 use crate::at::At;
 use crate::edits::{begin, fill, put_at, put_in_full, take_out, write_at};
-use crate::search::{Compare, first_tie_in, position_in, ties_in};
+use crate::search::{Compare, first_tie_in, position_in, position_near, ties_in};
 use rv_base::Memory;
 use std::alloc::Global;
 use std::marker::Model;
@@ -77,6 +77,15 @@ impl<T: Drop> Chunks<T> {
         ensures at { MatchResult result (IsItem self.now.chunks) (IsGap self.now.chunks) }
     {
         position_in(&self.chunks, sought)
+    }
+
+    /// The same. A place is looked at before all others are searched: where an earlier search found a gap, it mostly is there still.
+    pub fn position_near<C: Compare<T>>(&self, sought: &C, near: At) -> Result<At, At>
+        ensures bound { IsSearchInRange (index_found self.now.chunks result) (length (items self.now.chunks)) }
+        ensures position { IsBinarySearchResult (C.order sought.now) (items self.now.chunks) (index_found self.now.chunks result) }
+        ensures at { MatchResult result (IsItem self.now.chunks) (IsGap self.now.chunks) }
+    {
+        position_near(&self.chunks, sought, near)
     }
 
     /// The item that stands there.

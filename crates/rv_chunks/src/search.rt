@@ -4,7 +4,7 @@ ghost use Rattle.std.specs.declared.cmp.Ordering.{Ordering};
 ghost use Rattle.std.specs.Ordering.{is_lt, is_le, is_eq};
 ghost use Rattle.std.specs.List.{filter};
 ghost use Rattle.std.specs.List.Sorted.{IsSearchInRange, IsBinarySearchResult};
-ghost use Rattle.rv_chunks.specs.Chunking.{items, chunk_at, index_of, index_found, IsItem, IsGap, Rises};
+ghost use Rattle.rv_chunks.specs.Chunking.{items, chunk_at, index_of, index_found, GoesBetween, IsItem, IsGap, Rises};
 ghost use Rattle.rv_chunks.specs.Vectors.{lists, HaveItems, ends, PartsChunks};
 
 use crate::at::At;
@@ -112,6 +112,45 @@ pub(crate) fn position_in<T, C: Compare<T>>(chunks: &[Vec<T>], sought: &C) -> Re
     match position_in_chunk(&chunks[chunk], sought) {
         Ok(offset) => Ok(At { chunk, offset }),
         Err(offset) => Err(At { chunk, offset }),
+    }
+}
+
+// Whether what is looked for goes between the items of a chunk before the offset and at it.
+fn goes_between<T, C: Compare<T>>(chunk: &[T], offset: usize, sought: &C) -> bool
+    ensures { IsTrue result → GoesBetween (C.order sought.now) chunk.now offset }
+{
+    if offset == 0 || offset >= chunk.len() {
+        return false;
+    }
+    sought.compare(&chunk[offset - 1]).is_lt() && sought.compare(&chunk[offset]).is_gt()
+}
+
+// Whether what is looked for goes there, between two items of one chunk.
+fn goes_at<T, C: Compare<T>>(chunks: &[Vec<T>], sought: &C, at: At) -> bool
+    ensures chunk { IsTrue result → at.chunk < length chunks.now }
+    ensures between { IsTrue result → GoesBetween (C.order sought.now) (chunk_at (lists chunks.now) at.chunk) at.offset }
+{
+    if at.chunk >= chunks.len() {
+        return false;
+    }
+    goes_between(&chunks[at.chunk], at.offset, sought)
+}
+
+// The same as `position_in`. A place is looked at before a search: that of an earlier one is mostly right.
+pub(crate) fn position_near<T, C: Compare<T>>(
+    chunks: &[Vec<T>],
+    sought: &C,
+    near: At,
+) -> Result<At, At>
+    requires { HaveItems (lists chunks.now) }
+    ensures bound { IsSearchInRange (index_found (lists chunks.now) result) (length (items (lists chunks.now))) }
+    ensures position { IsBinarySearchResult (C.order sought.now) (items (lists chunks.now)) (index_found (lists chunks.now) result) }
+    ensures at { MatchResult result (IsItem (lists chunks.now)) (IsGap (lists chunks.now)) }
+{
+    if goes_at(chunks, sought, near) {
+        Err(near)
+    } else {
+        position_in(chunks, sought)
     }
 }
 

@@ -41,8 +41,11 @@ pub else_is : {A : Type 0} (b : Bool) (x y z : A) → b ≡ false → cond b x y
 else_is b x y z e h = subst (λ (b : Bool). cond b x y ≡ z) e h
 
 -- what a look-up in the tables says of the rows
+pub row_in : (k : List ℕ) (stored : List Stored) → is_some (find k stored) ≡ has_row k (rows_in stored)
+row_in k stored = found-map row_text (λ s. s.0) k stored ∙ found-any row_text k (rows_in stored)
+
 pub row_there : {X : Type 0} (view : X → Stored) (o : Option X) (k : List ℕ) (stored : List Stored) → option_map view o ≡ find k stored → is_some o ≡ has_row k (rows_in stored)
-row_there view o k stored e = seen view o ∙ ap is_some e ∙ found-map row_text (λ s. s.0) k stored ∙ found-any row_text k (rows_in stored)
+row_there view o k stored e = seen view o ∙ ap is_some e ∙ row_in k stored
   where
     seen : {X : Type 0} (view : X → Stored) (o : Option X) → is_some o ≡ is_some (option_map view o)
     seen view None = refl

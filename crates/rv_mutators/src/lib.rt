@@ -11,5 +11,5 @@ mod staged;
 mod staging;
 mod todos;
 
-pub use staged::Staged;
+pub use staged::{Staged, StagedRows};
 pub use staging::stage;

@@ -1,5 +1,5 @@
 // The calls that make and remove a list.
-ghost use Rattle.std.specs.Prelude.{◌≡◌, ◌&&◌, not, IfOk, map};
+ghost use Rattle.std.specs.Prelude.{◌≡◌, ◌&&◌, is_some, not, IfOk, map};
 ghost use Rattle.std.specs.List.{filter};
 ghost use Rattle.std.specs.Str.{bytes_eq};
 ghost use Rattle.rv_rows.specs.Held.{rows_in, AreRows};
@@ -9,9 +9,9 @@ ghost use Rattle.rv_rows.specs.declared.call.Call.TheVariants.{CreateList, Delet
 ghost use Rattle.rv_rows.specs.declared.key.Kind.TheVariants.{List as ListKind};
 ghost use Rattle.rv_mutators.specs.Staging.{staged};
 
-use crate::staged::Staged;
+use crate::staged::{Staged, StagedRows};
 use rv_base::{Id, Memory, Text, User};
-use rv_rows::{Keys, Kind, ListRow, Row, Rows, Tables};
+use rv_rows::{At, Keys, Kind, ListRow, Row, Tables};
 use rv_sharing::owns;
 use std::alloc::Global;
 
@@ -59,7 +59,7 @@ pub(crate) fn delete_list(
     if owns(tables, user, id) {
         let keys = keys_of(alloc, tables, id)?;
         Ok(Staged {
-            rows: Rows::new(alloc),
+            rows: StagedRows::none(alloc),
             keys,
         })
     } else {
@@ -83,4 +83,11 @@ pub(crate) fn has_row(tables: &Tables, kind: Kind, id: &Id) -> bool
     ensures { result ≡ has_row (key_text (record { kind = kind; id = id.now })) (rows_in tables.now.rows) }
 {
     tables.row(kind, id).is_some()
+}
+
+// Where a row with the key of this kind and id goes, where none has it.
+pub(crate) fn gap_for(tables: &Tables, kind: Kind, id: &Id) -> Option<At>
+    ensures { is_some result ≡ not (has_row (key_text (record { kind = kind; id = id.now })) (rows_in tables.now.rows)) }
+{
+    tables.gap(kind, id)
 }

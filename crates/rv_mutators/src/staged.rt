@@ -7,15 +7,79 @@ ghost use Rattle.rv_mutators.specs.Staging.{with_staged, IsStagedOn};
 ghost use Rattle.rv_mutators.specs.Touched.{AreTouched, AddsReaders, AddsReadersOf};
 
 use rv_base::Memory;
-use rv_rows::{Key, Keys, Row, Rows, Tables, Users};
+use rv_rows::{At, Key, Keys, Row, Rows, Tables, Users};
 use rv_sharing::{add_if_synced, add_sharers, add_user, add_viewers, affected, has_list};
 use std::alloc::Global;
+use std::marker::Model;
+
+/// The rows that a call writes, in the order of their keys, and where it found that they go.
+///
+/// A contract sees the list of the rows.
+#[derive(Debug, Drop)]
+pub struct StagedRows {
+    rows: Rows,
+    // where a row goes that no other has the key of, where that was looked for
+    gap: Option<At>,
+}
+
+impl Model for StagedRows {
+    ghost use Rattle.std.specs.Prelude.{List};
+    ghost use Rattle.rv_rows.specs.declared.row.Row.{Row};
+
+    ghost Value = { List Row };
+
+    ghost view = { λ s. s.rows };
+}
+
+impl StagedRows {
+    // No row.
+    pub(crate) fn none(alloc: Global) -> StagedRows
+        ensures { result ≡ [] }
+    {
+        StagedRows {
+            rows: Rows::new(alloc),
+            gap: None,
+        }
+    }
+
+    // One row, and where it goes, where that was looked for.
+    fn one(alloc: Global, row: Row, gap: Option<At>) -> Result<StagedRows, Memory>
+        ensures { IfOk result (λ rows. rows ≡ row ∷ []) }
+    {
+        let mut rows = Rows::new(alloc);
+        rows.push(row)?;
+        Ok(StagedRows { rows, gap })
+    }
+
+    /// How many rows there are.
+    pub fn len(&self) -> usize
+        ensures { result ≡ length self.now }
+    {
+        self.rows.len()
+    }
+
+    /// The rows, in the order of their keys.
+    pub fn as_slice(&self) -> &[Row]
+        ensures { result.now ≡ self.now }
+    {
+        self.rows.as_slice()
+    }
+
+    // Writes the rows with the version, in space that there is.
+    fn put(self, tables: &mut Tables, version: u32)
+        requires { length self ≤ tables.old.spare }
+        ensures { tables.new.rows ≡ fold (λ t row. put (row, version) t) tables.old.rows self }
+    {
+        let StagedRows { rows, gap } = self;
+        put_rows(tables, rows.into_vec(), version, gap);
+    }
+}
 
 /// What a call writes and removes, of the tables that it was staged on.
 #[derive(Debug, Drop)]
 pub struct Staged {
     /// The rows that it writes, in the order of their keys.
-    pub rows: Rows,
+    pub rows: StagedRows,
     /// The keys that it removes, in order.
     pub keys: Keys,
 }
@@ -26,7 +90,7 @@ impl Staged {
         ensures { result ≡ record { rows = []; keys = [] } }
     {
         Staged {
-            rows: Rows::new(alloc),
+            rows: StagedRows::none(alloc),
             keys: Keys::new(alloc),
         }
     }
@@ -35,10 +99,18 @@ impl Staged {
     pub(crate) fn writes(alloc: Global, row: Row) -> Result<Staged, Memory>
         ensures { IfOk result (λ s. s ≡ record { rows = row ∷ []; keys = [] }) }
     {
-        let mut rows = Rows::new(alloc);
-        rows.push(row)?;
         Ok(Staged {
-            rows,
+            rows: StagedRows::one(alloc, row, None)?,
+            keys: Keys::new(alloc),
+        })
+    }
+
+    // One row is written that no other has the key of, and goes there.
+    pub(crate) fn adds(alloc: Global, row: Row, gap: At) -> Result<Staged, Memory>
+        ensures { IfOk result (λ s. s ≡ record { rows = row ∷ []; keys = [] }) }
+    {
+        Ok(Staged {
+            rows: StagedRows::one(alloc, row, Some(gap))?,
             keys: Keys::new(alloc),
         })
     }
@@ -50,7 +122,7 @@ impl Staged {
         let mut keys = Keys::new(alloc);
         keys.push(key)?;
         Ok(Staged {
-            rows: Rows::new(alloc),
+            rows: StagedRows::none(alloc),
             keys,
         })
     }
@@ -63,7 +135,7 @@ impl Staged {
     {
         let Staged { rows, keys } = self;
         remove_keys(tables, keys.as_slice());
-        put_rows(tables, rows.into_vec(), version);
+        rows.put(tables, version);
     }
 
     /// The users who see a key that it writes or removes, before or after [`Staged::apply`], in the order of their bytes,
@@ -88,13 +160,13 @@ fn remove_keys(tables: &mut Tables, keys: &[Key])
     }
 }
 
-// Writes the rows with the version, in space that there is.
-fn put_rows(tables: &mut Tables, rows: Vec<Row>, version: u32)
+// Writes the rows with the version, in space that there is. A place, where one is given, is looked at before all others are searched.
+fn put_rows(tables: &mut Tables, rows: Vec<Row>, version: u32, gap: Option<At>)
     requires { vec_len rows ≤ tables.old.spare }
     ensures { tables.new.rows ≡ fold (λ t row. put (row, version) t) tables.old.rows rows.items }
 {
     for row in rows {
-        tables.put(row, version);
+        tables.put_near(row, version, gap);
     }
 }
 

@@ -10,10 +10,10 @@ ghost use Rattle.rv_rows.specs.declared.row.Row.TheVariants.{Todo};
 ghost use Rattle.rv_rows.specs.declared.key.Kind.TheVariants.{Todo as TodoKind};
 ghost use Rattle.rv_mutators.specs.Staging.{staged, written_if, removed_if};
 
-use crate::lists::has_row;
+use crate::lists::gap_for;
 use crate::staged::Staged;
 use rv_base::{Id, Memory, Num, Text, User};
-use rv_rows::{Kind, Row, Tables, TodoRow};
+use rv_rows::{At, Kind, Row, Tables, TodoRow};
 use rv_sharing::{list_to_edit, may_edit_list_of};
 use std::alloc::Global;
 
@@ -31,7 +31,7 @@ pub(crate) fn create_todo(
     ensures { IfOk result (λ s. s ≡ staged (rows_in tables.now.rows) user.now (CreateTodo id.now list.now text.now complete)) }
 {
     match list_for(tables, user, id, list) {
-        Some(known) => {
+        Some((known, gap)) => {
             let row = TodoRow {
                 id: id.copy(alloc)?,
                 list: known.copy(alloc)?,
@@ -39,22 +39,20 @@ pub(crate) fn create_todo(
                 complete,
                 sort: TodoRow::sort_after(tables.greatest_sort(list)),
             };
-            Staged::writes(alloc, Row::Todo(row))
+            Staged::adds(alloc, Row::Todo(row), gap)
         }
         None => Ok(Staged::nothing(alloc)),
     }
 }
 
-// The id of the list, as its row has it, where no todo has the id and the user may edit the list.
-fn list_for<'t>(tables: &'t Tables, user: &User, id: &Id, list: &Id) -> Option<&'t Id>
+// The id of the list, as its row has it, and where the todo goes, where no todo has the id and the user may edit the list.
+fn list_for<'t>(tables: &'t Tables, user: &User, id: &Id, list: &Id) -> Option<(&'t Id, At)>
     ensures allowed { is_some result ≡ (not (has_row (key_text (record { kind = TodoKind; id = id.now })) (rows_in tables.now.rows)) && may_edit user.now list.now (rows_in tables.now.rows)) }
-    ensures id { IfSome result (λ known. known.now ≡ list.now) }
+    ensures id { IfSome result (λ found. found.0.now ≡ list.now) }
 {
-    if has_row(tables, Kind::Todo, id) {
-        None
-    } else {
-        list_to_edit(tables, user, list)
-    }
+    let gap = gap_for(tables, Kind::Todo, id)?;
+    let known = list_to_edit(tables, user, list)?;
+    Some((known, gap))
 }
 
 // The fields that are named, of a todo whose list the user may edit.

@@ -14,8 +14,8 @@ ghost use Rattle.rv_rows.specs.Slots.{rows_of, no_row};
 use crate::filing::Filing;
 use crate::key::Kind;
 use crate::positions::{
-    enter, first_under, gap_filed, place_of, position_by_key, position_filed, push, rewrite,
-    slots_under, strike, vacate,
+    enter, first_under, gap_filed, place_of, position_by_key, position_by_key_near, position_filed,
+    push, rewrite, slots_under, strike, vacate,
 };
 use crate::row::Row;
 use crate::tables::RowsInOrder;
@@ -103,6 +103,18 @@ impl IndexedRows {
         position_by_key(&self.slots, &self.by_key, kind, id)
     }
 
+    // The same. A place, where one is given, is looked at before all others are searched.
+    fn position_near(&self, kind: Kind, id: &str, near: Option<At>) -> Result<At, At>
+        ensures position { IsPositionOf stored_key (key_text (record { kind = kind; id = id.now })) (rows_of self.now) (index_found self.now.by_key result) }
+        ensures at { MatchResult result (IsItem self.now.by_key) (IsGap self.now.by_key) }
+        ensures order { AreRows (rows_of self.now) }
+    {
+        match near {
+            Some(near) => position_by_key_near(&self.slots, &self.by_key, kind, id, near),
+            None => self.position(kind, id),
+        }
+    }
+
     // The row that stands there, with its version.
     pub(crate) fn row_at(&self, at: At) -> (&Row, u32)
         requires { IsItem self.now.by_key at }
@@ -113,13 +125,14 @@ impl IndexedRows {
         (&stored.0, stored.1)
     }
 
-    // Writes a row, in the place of the one that has its key. It can't fail, and takes no memory.
-    pub(crate) fn put(&mut self, row: Row, version: u32)
+    // Writes a row, in the place of the one that has its key. A place, where one is given, is looked at before all others are searched. It
+    // can't fail, and takes no memory.
+    pub(crate) fn put(&mut self, row: Row, version: u32, near: Option<At>)
         requires { 1 ≤ self.old.spare }
         ensures rows { rows_of self.new ≡ put (row, version) (rows_of self.old) }
         ensures spare { self.old.spare ≤ self.new.spare + 1 }
     {
-        match self.position(row.kind(), row.id()) {
+        match self.position_near(row.kind(), row.id(), near) {
             Ok(at) => self.write_at(at, row, version),
             Err(at) => self.put_at(at, row, version),
         }

@@ -34,5 +34,6 @@ pub use role::Role;
 pub use row::{ExtentRow, ListRow, Row, ShareRow, TodoRow};
 pub use row_json::row_value;
 pub use row_reading::read_row;
+pub use rv_chunks::At;
 pub use sequences::{Clients, Ids, Keys, Rows, Users, Visible};
 pub use tables::{RowsInOrder, Tables};

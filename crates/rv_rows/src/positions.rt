@@ -53,6 +53,22 @@ pub(crate) fn position_by_key(
     order.position(&SoughtKey { slots, kind, id })
 }
 
+// The same. A place is looked at before all others are searched.
+pub(crate) fn position_by_key_near(
+    slots: &[(Row, u32)],
+    order: &Chunks<u32>,
+    kind: Kind,
+    id: &str,
+    near: At,
+) -> Result<At, At>
+    requires slots { AreSlots (length slots.now) (items order.now.chunks) }
+    requires order { AreRows (standing slots.now (items order.now.chunks)) }
+    ensures position { IsPositionOf stored_key (key_text (record { kind = kind; id = id.now })) (standing slots.now (items order.now.chunks)) (index_found order.now.chunks result) }
+    ensures at { MatchResult result (IsItem order.now.chunks) (IsGap order.now.chunks) }
+{
+    order.position_near(&SoughtKey { slots, kind, id }, near)
+}
+
 // A row that is looked for in an order by what rows are filed under: what it is filed under, its sort and its key. A slot that is not there
 // stands below it.
 #[derive(Drop)]

@@ -1,4 +1,4 @@
-ghost use Rattle.std.specs.Prelude.{◌≡◌, ◌≤◌, ◌+◌, [], length, option_map, OnOk, is_some};
+ghost use Rattle.std.specs.Prelude.{◌≡◌, ◌≤◌, ◌+◌, [], length, option_map, OnOk, is_some, not};
 ghost use Rattle.std.specs.List.{filter, list_any};
 ghost use Rattle.std.specs.Str.{bytes_eq};
 ghost use Rattle.std.specs.Iterator.{YieldsFirstBy, item_count};
@@ -13,7 +13,7 @@ use crate::indexed::IndexedRows;
 use crate::key::{Key, Kind};
 use crate::row::Row;
 use rv_base::{Id, Memory, User};
-use rv_chunks::Walk;
+use rv_chunks::{At, Walk};
 use std::alloc::Global;
 use std::marker::Model;
 
@@ -108,7 +108,26 @@ impl Tables {
         ensures rows { self.new.rows ≡ put (row, version) self.old.rows }
         ensures spare { self.old.spare ≤ self.new.spare + 1 }
     {
-        self.rows.put(row, version);
+        self.rows.put(row, version, None);
+    }
+
+    /// The same. A place that [`Tables::gap`] gave, for the key of this row, is looked at before all others are searched.
+    pub fn put_near(&mut self, row: Row, version: u32, near: Option<At>)
+        requires { 1 ≤ self.old.spare }
+        ensures rows { self.new.rows ≡ put (row, version) self.old.rows }
+        ensures spare { self.old.spare ≤ self.new.spare + 1 }
+    {
+        self.rows.put(row, version, near);
+    }
+
+    /// Where a row of this kind and id would go, where there is none: a place for [`Tables::put_near`]. Takes no memory.
+    pub fn gap(&self, kind: Kind, id: &Id) -> Option<At>
+        ensures { is_some result ≡ not (is_some (find (key_text (record { kind = kind; id = id.now })) self.now.rows)) }
+    {
+        match self.rows.position(kind, id.as_str()) {
+            Ok(_) => None,
+            Err(at) => Some(at),
+        }
     }
 
     /// Whether some row has the key of this one. Takes no memory.

@@ -7,7 +7,7 @@ use Rattle.rv_mutators.proofs.lists.delete_list.Goals as goal
 pub returns-in_ok-keys : goal.returns-in_ok-keys
 returns-in_ok-keys c =
     let stored = c.args.tables.now.rows in
-    rw (c.new.ensures, c.in_ok-keys.ensures)
+    rw (c.none.ensures, c.in_ok-keys.ensures)
     (then_is _ _ _ _ (sym c.owns.ensures ∙ c.if-owns.true) (delete_list-is (rows_in stored) (in_order-rows stored c.requires) c.args.user.now c.args.id.now))
 
 pub returns-else-owns : goal.returns-else-owns

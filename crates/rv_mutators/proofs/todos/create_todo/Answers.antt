@@ -7,7 +7,7 @@ use Rattle.rv_mutators.proofs.todos.create_todo.Goals as goal
 pub returns-in_ok-copy-in-Some-3 : goal.returns-in_ok-copy-in-Some-3
 returns-in_ok-copy-in-Some-3 c =
     let stored = c.args.tables.now.rows in
-    ok_is _ _ _ (rw (c.in_ok-copy-in-Some.ensures, c.in_ok-copy-in-Some-2.ensures, c.in-Some.ensures.id, c.in_ok-copy-in-Some-3.ensures, c.sort_after.ensures, c.greatest_sort.ensures) at c.writes.ensures)
+    ok_is _ _ _ (rw (c.in_ok-copy-in-Some.ensures, c.in_ok-copy-in-Some-2.ensures, c.in-Some.ensures.id, c.in_ok-copy-in-Some-3.ensures, c.sort_after.ensures, c.greatest_sort.ensures) at c.adds.ensures)
     (then_is _ _ _ _ (sym c.in-Some.ensures.allowed) (create_todo-is (rows_in stored) (in_order-rows stored c.requires) c.args.user.now c.args.id.now c.args.list.now c.args.text.now c.args.complete))
 
 pub returns-in-None : goal.returns-in-None
